@@ -1,0 +1,13 @@
+pub mod Reading
+pub mod Cuts
+pub mod Binds
+pub mod Ones
+pub mod Lines
+pub mod Mores
+pub mod Meets
+pub mod Terms
+pub mod Values
+pub mod Moves
+pub mod Whole
+pub mod Texts
+pub mod Unique

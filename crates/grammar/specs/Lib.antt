@@ -1,0 +1,9 @@
+pub mod Axes
+pub mod Symbols
+pub mod Grammar
+pub mod Prefixes
+pub mod Tests
+pub mod Combinators
+pub mod Parser
+pub mod Answer
+pub mod Law
