@@ -1,4 +1,6 @@
 // Why and where a text is no line.
+ghost use mathlib.Core.Path.{_≡_};
+ghost use Rattle.grammar.specs.Answer.{number-of};
 
 #[derive(Clone, Copy)]
 pub enum Cause {
@@ -12,6 +14,20 @@ pub enum Cause {
     Limit,
     // an axis that is named twice
     Twice,
+}
+
+impl Cause {
+    pub fn number(self) -> u32
+        ensures { λ r. ⌜ r ≡ number-of self ⌝ }
+    {
+        match self {
+            Cause::Length => 11,
+            Cause::Byte => 12,
+            Cause::Unexpected => 13,
+            Cause::Limit => 14,
+            Cause::Twice => 15,
+        }
+    }
 }
 
 #[derive(Clone, Copy)]

@@ -1,0 +1,5 @@
+pub mod Cuts
+pub mod RangeLines
+pub mod RangeGrammar
+pub mod LineFeeds
+pub mod Reports

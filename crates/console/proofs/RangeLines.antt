@@ -1,0 +1,64 @@
+-- A range line and its numbers.
+use mathlib.Core.Path.{_≡_, refl, sym, ap, subst, _∙_}
+use mathlib.Core.Bool.{Bool, true, false, cond, _&&_}
+use mathlib.Core.List.{List, [], _∷_, _++_}
+use Prim.Native.Nat.{ℕ, _+_, _-_, _<_, _≤_, zero, suc}
+use native.Mathlib.Omega.{arith}
+use lib.ListN.{length, take, drop, getD}
+use lib.Dec.{eqb, leb}
+use lib.IntN.{ℤ, pos, negℤ}
+use borrow.Author.Needs.{needs}
+use Rattle.std.proofs.shelf.Tests.{eq-eqb, ne-eqb, and-parts, leb-true, le-leb}
+use Rattle.std.proofs.shelf.Lists.{take-rest, drop-all}
+use Rattle.std.specs.Reads.{value, Digits}
+use Rattle.std.specs.declared.option.Option.{Option}
+use Rattle.std.specs.declared.option.Option.the-variants.{Some, None}
+use Rattle.console.specs.RangeLines.{is-digit, all-digits, natural-of, minus, number-of, with-both, pair-of, range-of}
+use Rattle.console.specs.Lines.{until}
+use Rattle.console.specs.declared.range_line.RangeLine.{RangeLine}
+
+pub all-are-digits : (bs : List ℕ) → all-digits bs ≡ true → Digits 10 bs
+all-are-digits [] h = tt
+all-are-digits (b ∷ bs) h =
+    let p = and-parts (is-digit b) (all-digits bs) h in
+    let q = and-parts (leb 48 b) (leb b 57) (p .0) in
+    let lo = leb-true 48 b (q .0) in
+    let hi = leb-true b 57 (q .1) in
+    (search needs, all-are-digits bs (p .1))
+
+pub signed-text : (bs : List ℕ) → 1 ≤ length bs → getD bs 0 0 ≡ 45 → number-of bs ≡ minus (natural-of (take (length bs - 1) (drop 1 bs)))
+signed-text [] h e = absurd (omega arith)
+signed-text (b ∷ bs) h e = let t : eqb b 45 ≡ true = eq-eqb b 45 e in rw t (ap (λ ds. minus (natural-of ds)) (sym (take-rest (b ∷ bs) 1)))
+
+no-second : (p : ℕ) (a : Option ℤ) → None ≡ with-both p a None
+no-second p None = refl
+no-second p (Some x) = refl
+
+module _ (p : ℕ) (bs : List ℕ) (n : ℕ) (e : n ≡ until 32 bs) where
+  pub no-blank : n ≡ length bs → None ≡ pair-of p bs
+  no-blank h =
+      let gone : drop (until 32 bs + 1) bs ≡ [] = drop-all (until 32 bs + 1) bs (omega arith) in
+      no-second p (number-of (take (until 32 bs) bs)) ∙ ap (λ ds. with-both p (number-of (take (until 32 bs) bs)) (number-of ds)) (sym gone)
+
+  first-part : take (n - 0) bs ≡ take (until 32 bs) bs
+  first-part = ap (λ k. take k bs) (omega arith)
+
+  second-part : take (length bs - (n + 1)) (drop (n + 1) bs) ≡ drop (until 32 bs + 1) bs
+  second-part = take-rest bs (n + 1) ∙ ap (λ k. drop (k + 1) bs) e
+
+  pub both-parts : (a b : Option ℤ) → a ≡ number-of (take (n - 0) bs) → b ≡ number-of (take (length bs - (n + 1)) (drop (n + 1) bs)) → with-both p a b ≡ pair-of p bs
+  both-parts a b x y = ap (λ o. with-both p o b) (x ∙ ap number-of first-part) ∙ ap (with-both p (number-of (take (until 32 bs) bs))) (y ∙ ap number-of second-part)
+
+  pub no-first : None ≡ number-of (take (n - 0) bs) → None ≡ pair-of p bs
+  no-first x = ap (λ o. with-both p o (number-of (drop (until 32 bs + 1) bs))) (x ∙ ap number-of first-part)
+
+pub range : (bs : List ℕ) → 3 ≤ length bs → getD bs 0 0 ≡ 63 → 48 ≤ getD bs 1 0 → getD bs 1 0 ≤ 57 → getD bs 2 0 ≡ 32 → pair-of (getD bs 1 0 - 48) (take (length bs - 3) (drop 3 bs)) ≡ range-of bs
+range [] h q lo hi s = absurd (omega arith)
+range (a ∷ []) h q lo hi s = absurd (omega arith)
+range (a ∷ d ∷ []) h q lo hi s = absurd (omega arith)
+range (a ∷ d ∷ b ∷ bs) h q lo hi s =
+    let t : eqb a 63 ≡ true = eq-eqb a 63 q in
+    let u : leb 48 d ≡ true = le-leb 48 d lo in
+    let v : leb d 57 ≡ true = le-leb d 57 hi in
+    let w : eqb b 32 ≡ true = eq-eqb b 32 s in
+    rw (t, u, v, w) (ap (pair-of (d - 48)) (take-rest (a ∷ d ∷ b ∷ bs) 3))

@@ -1,0 +1,4 @@
+pub mod Lines
+pub mod RangeLines
+pub mod Report
+pub mod Law

@@ -1,0 +1,45 @@
+// Why an input is refused.
+ghost use mathlib.Core.Path.{_≡_};
+ghost use Rattle.console.specs.Report.{refusal-number, refusal-place};
+use program::refusal::LineRefusal;
+
+#[derive(Clone, Copy)]
+pub enum Refusal {
+    // more than 32,768 bytes
+    Input,
+    // a line that begins as a range line, and is none
+    RangeText,
+    // a range for a parameter other than 1 to 6
+    Parameter,
+    // a range whose low end is above its high end, or with an end beyond the greatest length
+    Range,
+    // a line of the program
+    Line(LineRefusal),
+    // a block that is open where the program ends
+    Open,
+}
+
+impl Refusal {
+    pub fn number(self) -> u32
+        ensures { λ r. ⌜ r ≡ refusal-number self ⌝ }
+    {
+        match self {
+            Refusal::Input => 46,
+            Refusal::RangeText => 13,
+            Refusal::Parameter => 26,
+            Refusal::Range => 27,
+            Refusal::Line(e) => e.number(),
+            Refusal::Open => 31,
+        }
+    }
+
+    // The place in the line, or 0 where there is none.
+    pub fn place(self) -> usize
+        ensures { λ r. ⌜ r ≡ refusal-place self ⌝ }
+    {
+        match self {
+            Refusal::Line(e) => e.place().unwrap_or(0),
+            _ => 0,
+        }
+    }
+}
