@@ -17,7 +17,8 @@ use Rattle.grammar.specs.Parser.{line}
 use Rattle.grammar.specs.Symbols.{symbol-of, symbols}
 use Rattle.grammar.specs.Answer.{Answer, read, refused, front, answered, reading, permitted, clear, answer}
 use Rattle.grammar.specs.Law.{Allowed, Clean, RefusedAt, Answers, too-long, spoilt, accepted, stuck}
-use Rattle.lexer.specs.Lexemes.{Lexeme, lexemes}
+use Rattle.lexer.specs.Lexemes.{Lexeme, LexemesAre, lexemes}
+use Rattle.lexer.proofs.Lexemes.{has-lexemes}
 use Rattle.grammar.proofs.Cuts.{empty-cons}
 use Rattle.grammar.proofs.Mores.{true-false}
 use Rattle.grammar.proofs.Whole.{reads-line}
@@ -63,7 +64,7 @@ refuses-at s k p (bad j rest) e h =
     record {
       us = c .0;
       ws = c .1;
-      cut = c .2;
+      tokens = subst (LexemesAre 0 s) (c .2) (has-lexemes s);
       place = sym at ∙ ap (λ l. front l (length s)) (dropped (lexemes s) (c .0) (c .1) rest (c .2) (c .4));
       viable = subst (λ u. Viable LineIs u) (sym (c .3)) (st .2);
       number = subst (λ u. Refused k (symbols (c .1)) (Follows LineIs u) (Ends LineIs u) (Again LineIs u)) (sym (c .3)) (subst (λ r. Refused k r (Follows LineIs (st .0)) (Ends LineIs (st .0)) (Again LineIs (st .0))) (sym (c .4)) (st .3));
@@ -124,7 +125,7 @@ pub accepts-at : (s : List ℕ) (l : Line) → LineIs (symbols (lexemes s)) l �
 accepts-at s l h = ap (answered (lexemes s) (length s)) (reads-line .accepts (symbols (lexemes s)) l h)
 
 pub reading-is : (s : List ℕ) (v : Parsed Line) → line (symbols (lexemes s)) ≡ v → Clean s → Answers s (answered (lexemes s) (length s) v)
-reading-is s (got l rest) e c = accepted l c (lawful-at s l (got l rest) e refl)
+reading-is s (got l rest) e c = accepted (lexemes s) l c (has-lexemes s) (lawful-at s l (got l rest) e refl)
 reading-is s (bad k rest) e c = stuck k _ c (refuses-at s k _ (bad k rest) e refl)
 
 first-spoilt : (s : List ℕ) → clear s < length s → (Allowed (getD s (clear s) 0) → ⊥) × ((i : ℕ) → i < clear s → Allowed (getD s i 0))

@@ -7,6 +7,7 @@ use Prim.Native.Nat.{ℕ}
 use native.Mathlib.Omega.{arith}
 use lib.ListN.{length}
 use Rattle.lexer.specs.Lexemes.{Lexeme, lexemes}
+use Rattle.lexer.proofs.Lexemes.{only-lexemes}
 use Rattle.model.specs.declared.line.Line.{Line}
 use Rattle.model.specs.declared.line.Line.the-variants.{Plain, Setting, Move, While, If, EndIf, EndWhile}
 use Rattle.grammar.specs.declared.symbol.Symbol.{Symbol}
@@ -91,11 +92,11 @@ one-refusal s k p j q a b =
     let moved = subst (λ y. Refused j (symbols (a .ws)) (Follows LineIs (symbols y)) (Ends LineIs (symbols y)) (Again LineIs (symbols y))) (sym (e .0)) (subst (λ y. Refused j (symbols y) (Follows LineIs (symbols (b .us))) (Ends LineIs (symbols (b .us))) (Again LineIs (symbols (b .us)))) (sym (e .1)) (b .number)) in
     (one-number k j (symbols (a .us)) (symbols (a .ws)) (a .number) moved, a .place ∙ ap (λ y. front y (length s)) (e .1) ∙ sym (b .place)))
     (⊎-elim (λ e. absurd (not-longer k (a .us) (a .ws) (b .us) (a .number) (b .viable) e)) (λ e. absurd (not-longer j (b .us) (b .ws) (a .us) (b .number) (a .viable) e)))
-    (two-cuts (a .us) (a .ws) (b .us) (b .ws) (sym (a .cut) ∙ b .cut))
+    (two-cuts (a .us) (a .ws) (b .us) (b .ws) (only-lexemes s (a .us ++ a .ws) (a .tokens) ∙ sym (only-lexemes s (b .us ++ b .ws) (b .tokens))))
 
 -- a line is refused nowhere
 no-line : (s : List ℕ) (k p : ℕ) (l : Line) → RefusedAt s k p → LineIs (symbols (lexemes s)) l → ⊥
-no-line s k p l a is = go (a .ws) (a .number) (subst (λ y. LineIs y l) (ap symbols (a .cut) ∙ symbols-++ (a .us) (a .ws)) is)
+no-line s k p l a is = go (a .ws) (a .number) (subst (λ y. LineIs y l) (ap symbols (sym (only-lexemes s (a .us ++ a .ws) (a .tokens))) ∙ symbols-++ (a .us) (a .ws)) is)
   where
     go : (ws : List Lexeme) → Refused k (symbols ws) (Follows LineIs (symbols (a .us))) (Ends LineIs (symbols (a .us))) (Again LineIs (symbols (a .us))) → LineIs (symbols (a .us) ++ symbols ws) l → ⊥
     go [] r h = r .1 (l, subst (λ y. LineIs y l) (append-nil (symbols (a .us))) h)
@@ -110,7 +111,7 @@ stuck-at s k p (bad j rest) e a =
 one-answer : (s : List ℕ) (b : Answer) → Answers s b → b ≡ answer s
 one-answer s b (too-long h) = sym (long-answer s h)
 one-answer s b (spoilt p h) = sym (byte-answer s p (h .0) (clear-to s p (h .1) (h .2) (h .3)) (h .1))
-one-answer s b (accepted l c h) = sym (clean-answer s c ∙ accepts-at s l h)
+one-answer s b (accepted ts l c t h) = sym (clean-answer s c ∙ accepts-at s l (subst (λ x. LineIs (symbols x) l) (only-lexemes s ts t) h))
 one-answer s b (stuck k p c a) = stuck-at s k p _ refl a ∙ sym (clean-answer s c)
 
 pub the-answer : (s : List ℕ) → TheAnswer s (answer s)

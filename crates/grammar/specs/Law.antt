@@ -1,4 +1,4 @@
--- The law of the reader, by the grammar alone. A text is accepted exactly if its symbols are a line, and as that line.
+-- The law of the reader, by the grammar alone. A text is accepted exactly if its tokens are a line, and as that line.
 -- Otherwise it is refused at the first token with which no line goes on, or at its end if no line ends there: with 15
 -- where the tokens before make a whole move and the token names an axis of it, with 14 where it is digits and other
 -- digits might stand there, else with 13. Texts that are too long, or hold a byte that no line has, are not read at all.
@@ -6,7 +6,7 @@ use mathlib.Core.Path.{_≡_}
 use mathlib.Core.List.{List, _++_}
 use Prim.Native.Nat.{ℕ, _≤_, _<_}
 use lib.ListN.{length, getD}
-use Rattle.lexer.specs.Lexemes.{Lexeme, lexemes}
+use Rattle.lexer.specs.Lexemes.{Lexeme, LexemesAre}
 use Rattle.model.specs.declared.line.Line.{Line}
 use Rattle.grammar.specs.Prefixes.{Viable, Follows, Ends, Refused, Again}
 use Rattle.grammar.specs.Grammar.{LineIs}
@@ -29,7 +29,7 @@ Spoilt s p = (length s ≤ 120) × (p < length s) × (Allowed (getD s p 0) → �
 pub record RefusedAt (s : List ℕ) (k p : ℕ) : Type 0 where
   pub us : List Lexeme
   pub ws : List Lexeme
-  pub cut : lexemes s ≡ us ++ ws
+  pub tokens : LexemesAre 0 s (us ++ ws)
   pub place : p ≡ front ws (length s)
   pub viable : Viable LineIs (symbols us)
   pub number : Refused k (symbols ws) (Follows LineIs (symbols us)) (Ends LineIs (symbols us)) (Again LineIs (symbols us))
@@ -37,7 +37,7 @@ pub record RefusedAt (s : List ℕ) (k p : ℕ) : Type 0 where
 pub data Answers (s : List ℕ) : Answer → Type 0 where
   too-long : 120 < length s → Answers s (refused 11 120)
   spoilt : (p : ℕ) → Spoilt s p → Answers s (refused 12 p)
-  accepted : (l : Line) → Clean s → LineIs (symbols (lexemes s)) l → Answers s (read l)
+  accepted : (ts : List Lexeme) (l : Line) → Clean s → LexemesAre 0 s ts → LineIs (symbols ts) l → Answers s (read l)
   stuck : (k p : ℕ) → Clean s → RefusedAt s k p → Answers s (refused k p)
 
 -- a is an answer to the text, and there is no other

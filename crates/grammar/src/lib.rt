@@ -1,7 +1,4 @@
-// The grammar of a line: its symbols, which rows of them are lines, and what one symbol is taken for where it stands.
+// The grammar of a line: its symbols, which rows of them are lines, and why a text is none.
 pub mod axes;
-pub mod classify;
-pub mod expect;
 pub mod refusal;
 pub mod symbol;
-pub mod term;

@@ -33,7 +33,7 @@ size-some b bs Digit e = let r : run Digit (b ∷ bs) ≡ suc (run Digit bs) = a
 size-some b bs Mark e = omega arith
 size-some b bs Blank e = omega arith
 
-one : (p : ℕ) (s : List ℕ) → 0 < length s → size s ≤ length s → same (class (getD s 0 0)) Blank ≡ false → lexemes-from 0 p s ≡ record { place = p; bytes = take (size s) s } ∷ lexemes-from 0 (p + size s) (drop (size s) s)
+pub one : (p : ℕ) (s : List ℕ) → 0 < length s → size s ≤ length s → same (class (getD s 0 0)) Blank ≡ false → lexemes-from 0 p s ≡ record { place = p; bytes = take (size s) s } ∷ lexemes-from 0 (p + size s) (drop (size s) s)
 one p [] h w e = absurd (omega arith)
 one p (b ∷ bs) h w e =
     let n = size (b ∷ bs) in

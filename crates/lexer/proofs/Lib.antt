@@ -4,3 +4,4 @@ pub mod Heads
 pub mod Spelling
 pub mod Numbers
 pub mod Bytes
+pub mod Lexemes

@@ -9,7 +9,11 @@ use grammar::refusal::Cause;
 use grammar::refusal::Refusal;
 use model::line::Line;
 
+mod axes;
+mod classify;
+mod expect;
 mod reader;
+mod term;
 
 // The longest text of a line, in bytes.
 pub const MAX_TEXT: usize = 120;

@@ -3,16 +3,16 @@ ghost use mathlib.Core.Path.{_≡_};
 ghost use Rattle.reader.specs.Parses.{Parses};
 ghost use Rattle.grammar.specs.Combinators.{ends};
 ghost use Rattle.grammar.specs.Parser.{setting, more-words, move, block-rest, block, line-rest, line};
+use crate::axes;
+use crate::expect;
 use crate::reader::Reader;
+use crate::term::parameter_of;
 use grammar::axes::AxisValues;
-use grammar::axes::motion_of;
-use grammar::expect;
 use grammar::refusal::Cause;
 use grammar::refusal::Refusal;
 use grammar::symbol::BlockWord;
 use grammar::symbol::Keyword;
 use grammar::symbol::LineStart;
-use grammar::term::parameter_of;
 use model::line::Line;
 use model::line::Motion;
 
@@ -50,17 +50,17 @@ impl<'a> Reader<'a> {
     {
         let item = self.next();
         let Some(t) = item.symbol else {
-            return Ok(values.moved(motion));
+            return Ok(axes::moved(motion, values));
         };
         let a = expect::outcome(expect::axis(Some(t)), item.place)?;
-        if values.has(a) {
+        if axes::has(values, a) {
             return Err(Refusal {
                 cause: Cause::Twice,
                 place: item.place,
             });
         }
         let v = self.value()?;
-        self.more(motion, values.put(a, v))
+        self.more(motion, axes::put(values, a, v))
     }
 
     // A move, after the G.
@@ -70,7 +70,7 @@ impl<'a> Reader<'a> {
         let g = self.digits(0, 1)?;
         let a = self.axis()?;
         let v = self.value()?;
-        self.more(motion_of(g), AxisValues::none().put(a, v))
+        self.more(axes::motion_of(g), axes::put(axes::none(), a, v))
     }
 
     // A block line, after its label.

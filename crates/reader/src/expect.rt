@@ -1,16 +1,16 @@
 // What a symbol is taken for where it stands.
 ghost use mathlib.Core.Path.{_≡_};
 ghost use Rattle.grammar.specs.Tests.{tried, outcome, code, digits, only, axis, relation};
 ghost use Rattle.grammar.specs.Parser.{term-first, value-first, operator, block-word, line-first};
-use crate::refusal::Cause;
-use crate::refusal::Refusal;
-use crate::symbol::BlockWord;
-use crate::symbol::Keyword;
-use crate::symbol::LineStart;
-use crate::symbol::Symbol;
-use crate::symbol::TermStart;
-use crate::symbol::Tested;
-use crate::symbol::ValueStart;
+use grammar::refusal::Cause;
+use grammar::refusal::Refusal;
+use grammar::symbol::BlockWord;
+use grammar::symbol::Keyword;
+use grammar::symbol::LineStart;
+use grammar::symbol::Symbol;
+use grammar::symbol::TermStart;
+use grammar::symbol::Tested;
+use grammar::symbol::ValueStart;
 use model::expression::LIMIT;
 use model::expression::Op;
 use model::expression::Rel;
