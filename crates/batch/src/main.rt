@@ -1,5 +1,5 @@
 // Reads many inputs from standard input, each up to a line `----`, and prints the report on each.
-ghost use Prim.Native.Nat.{_<_, _≤_};
+ghost use Prim.Native.Nat.{_<_};
 ghost use lib.ListN.{length};
 ghost use Rattle.std.specs.Options.{Cases as BySome};
 use console::input::report_on;

@@ -1,15 +1,15 @@
 -- A text cut at its first line feed.
 use mathlib.Core.Path.{_≡_, refl, sym, ap, subst, _∙_}
 use mathlib.Core.Bool.{Bool, true, false, cond}
-use mathlib.Core.List.{List, [], _∷_, _++_}
-use Prim.Native.Nat.{ℕ, _+_, _-_, _<_, _≤_, zero, suc}
+use mathlib.Core.List.{List, [], _∷_}
+use Prim.Native.Nat.{ℕ, _+_, _-_, _<_, _≤_, suc}
 use native.Mathlib.Omega.{arith}
 use native.Mathlib.Numerals.{add-one}
 use lib.ListN.{length, take, drop, getD, length-drop}
 use lib.Dec.{eqb, leb}
-use Rattle.std.proofs.shelf.Tests.{eq-eqb, ne-eqb, le-leb, lt-leb, and-left, and-right}
+use Rattle.std.proofs.shelf.Tests.{eq-eqb, ne-eqb, le-leb, lt-leb}
 use Rattle.std.proofs.shelf.Lists.{at-drop-more, at-drop-all, drop-all, take-rest}
-use Rattle.console.specs.RangeLines.{is-digit, all-digits}
+use Rattle.console.specs.RangeLines.{all-digits}
 use Rattle.console.specs.Lines.{until, before, lines-of}
 
 -- the line feed is there

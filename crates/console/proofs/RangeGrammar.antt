@@ -2,14 +2,14 @@
 use mathlib.Core.Path.{_≡_, refl, sym, ap, subst, _∙_}
 use mathlib.Core.Bool.{Bool, true, false, cond, _&&_}
 use mathlib.Core.List.{List, [], _∷_, _++_}
-use Prim.Native.Nat.{ℕ, _+_, _-_, _<_, _≤_, zero, suc}
+use Prim.Native.Nat.{ℕ, _+_, _-_, _<_, _≤_}
 use native.Mathlib.Omega.{arith}
 use native.Mathlib.Numerals.{add-one}
-use lib.ListN.{length, take, drop, getD}
+use lib.ListN.{length, take, drop}
 use lib.Dec.{eqb, leb}
 use lib.IntN.{ℤ, pos, negℤ}
-use Rattle.std.proofs.shelf.Tests.{eq-eqb, ne-eqb, eqb-true, and-parts, leb-true, le-leb}
-use Rattle.std.proofs.shelf.Lists.{take-at, drop-at, drop-all, drop-drop}
+use Rattle.std.proofs.shelf.Tests.{ne-eqb, eqb-true, and-parts, leb-true, le-leb}
+use Rattle.std.proofs.shelf.Lists.{take-at, drop-at, drop-drop}
 use Rattle.std.specs.Reads.{value}
 use Rattle.std.specs.Options.{Cases}
 use Rattle.std.specs.declared.option.Option.{Option}

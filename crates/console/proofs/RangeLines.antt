@@ -1,21 +1,20 @@
 -- A range line and its numbers.
-use mathlib.Core.Path.{_≡_, refl, sym, ap, subst, _∙_}
-use mathlib.Core.Bool.{Bool, true, false, cond, _&&_}
-use mathlib.Core.List.{List, [], _∷_, _++_}
-use Prim.Native.Nat.{ℕ, _+_, _-_, _<_, _≤_, zero, suc}
+use mathlib.Core.Path.{_≡_, refl, sym, ap, _∙_}
+use mathlib.Core.Bool.{true}
+use mathlib.Core.List.{List, [], _∷_}
+use Prim.Native.Nat.{ℕ, _+_, _-_, _≤_}
 use native.Mathlib.Omega.{arith}
 use lib.ListN.{length, take, drop, getD}
 use lib.Dec.{eqb, leb}
-use lib.IntN.{ℤ, pos, negℤ}
+use lib.IntN.{ℤ}
 use borrow.Author.Needs.{needs}
-use Rattle.std.proofs.shelf.Tests.{eq-eqb, ne-eqb, and-parts, leb-true, le-leb}
+use Rattle.std.proofs.shelf.Tests.{eq-eqb, and-parts, leb-true, le-leb}
 use Rattle.std.proofs.shelf.Lists.{take-rest, drop-all}
-use Rattle.std.specs.Reads.{value, Digits}
+use Rattle.std.specs.Reads.{Digits}
 use Rattle.std.specs.declared.option.Option.{Option}
 use Rattle.std.specs.declared.option.Option.the-variants.{Some, None}
 use Rattle.console.specs.RangeLines.{is-digit, all-digits, natural-of, minus, number-of, with-both, pair-of, range-of}
 use Rattle.console.specs.Lines.{until}
-use Rattle.console.specs.declared.range_line.RangeLine.{RangeLine}
 
 pub all-are-digits : (bs : List ℕ) → all-digits bs ≡ true → Digits 10 bs
 all-are-digits [] h = tt

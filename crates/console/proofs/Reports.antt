@@ -3,9 +3,9 @@ use mathlib.Core.Path.{_≡_, refl, sym, ap, subst, _∙_}
 use mathlib.Core.Logic.{_⊎_, inl, inr}
 use mathlib.Core.Bool.{Bool, true, false, cond, _||_}
 use mathlib.Core.List.{List, [], _∷_, _++_, append-nil}
-use Prim.Native.Nat.{ℕ, _+_, _≤_, _<_, suc}
+use Prim.Native.Nat.{ℕ, _+_, _≤_, _<_}
 use native.Mathlib.Omega.{arith}
-use lib.Dec.{eqb, ltb}
+use lib.Dec.{ltb}
 use lib.IntN.{ℤ, pos, negℤ}
 use lib.Signed.{_≤ℤ_, ltZ}
 use lib.ListN.{length}
@@ -21,8 +21,8 @@ use Rattle.program.specs.Entry.{LineAnswer, taken, turned-down, line-answer, li
 use Rattle.console.specs.declared.range_line.RangeLine.{RangeLine}
 use Rattle.console.specs.Lines.{lines-of, LinesAre}
 use Rattle.console.specs.RangeLines.{RangeIs, range, range-of}
-use Rattle.console.specs.Report.{max-input, is-range, Outcome, read-all, refused-at, or-zero, allowed-answer, by-range, range-answer, Skipped, rest, stopped, after-range, skip, ending, by-line, program-outcome, by-skipped, report-of}
-use Rattle.console.specs.Law.{Known, Ordered, Good, Bad, malformed, unknown, disordered, Begun, Takes, none, one, Reports, too-long, bad-range, bad-line, left-open, whole, TheReport}
+use Rattle.console.specs.Report.{max-input, is-range, Outcome, read-all, refused-at, or-zero, by-range, range-answer, Skipped, rest, stopped, after-range, skip, ending, by-line, program-outcome, by-skipped, report-of}
+use Rattle.console.specs.Law.{Good, Bad, malformed, unknown, disordered, Begun, Takes, none, one, Reports, too-long, bad-range, bad-line, left-open, whole, TheReport}
 use Rattle.console.proofs.RangeGrammar.{is-read, is-had}
 use Rattle.program.proofs.Taken.{one-longer}
 use Rattle.console.proofs.LineFeeds.{are-lines, no-others}

@@ -1,6 +1,6 @@
--- The lines of a text: a line feed after each line but perhaps the last.
+-- The lines of a text: each ends with a line feed, which only the last one may lack.
 use mathlib.Core.Path.{_≡_}
-use mathlib.Core.Bool.{Bool, true, false, cond}
+use mathlib.Core.Bool.{false, cond}
 use mathlib.Core.List.{List, [], _∷_, _++_}
 use Prim.Native.Nat.{ℕ, _+_}
 use lib.Dec.{eqb}

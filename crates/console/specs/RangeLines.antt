@@ -1,6 +1,6 @@
--- Range lines: `?`, a digit, then twice a blank, an optional `-` and 1 to 8 digits. First the grammar, then the reading.
+-- Range lines: `?` and a digit, and two numbers of at most 8 digits, each after one blank. First the grammar, then the reading.
 use mathlib.Core.Path.{_≡_}
-use mathlib.Core.Bool.{Bool, true, false, cond, _&&_}
+use mathlib.Core.Bool.{Bool, true, cond, _&&_}
 use mathlib.Core.List.{List, [], _∷_, _++_}
 use Prim.Native.Nat.{ℕ, _+_, _-_, _≤_}
 use lib.Dec.{eqb, leb}

@@ -1,7 +1,7 @@
 -- What is reported on an input: range lines first, not counted, then the lines of the program, numbered from 1. The law of
 -- this report, as a relation, is in Law.
 use mathlib.Core.Path.{_≡_}
-use mathlib.Core.Bool.{Bool, true, false, cond, _||_}
+use mathlib.Core.Bool.{Bool, false, cond, _||_}
 use mathlib.Core.List.{List, [], _∷_, _++_}
 use Prim.Native.Nat.{ℕ, _+_, _≤_}
 use lib.Chars.{codes}

@@ -1,4 +1,4 @@
-// A range line: `?`, a digit, then twice a blank and a number.
+// Range lines: `?` and a digit, and two numbers, each after one blank.
 ghost use mathlib.Core.Path.{_≡_};
 ghost use lib.IntN.{pos, negℤ};
 ghost use lib.Signed.{_≤ℤ_};

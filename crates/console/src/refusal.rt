@@ -11,7 +11,7 @@ pub enum Refusal {
     RangeText,
     // a range for a parameter other than 1 to 6
     Parameter,
-    // a range whose low end is above its high end, or with an end beyond the greatest length
+    // a range whose ends are out of order or out of bounds
     Range,
     // a line of the program
     Line(LineRefusal),
@@ -20,7 +20,7 @@ pub enum Refusal {
 }
 
 impl Refusal {
-    pub fn number(self) -> u32
+    pub(crate) fn number(self) -> u32
         ensures { λ r. ⌜ r ≡ refusal-number self ⌝ }
     {
         match self {
@@ -34,7 +34,7 @@ impl Refusal {
     }
 
     // The place in the line, or 0 where there is none.
-    pub fn place(self) -> usize
+    pub(crate) fn place(self) -> usize
         ensures { λ r. ⌜ r ≡ refusal-place self ⌝ }
     {
         match self {

@@ -1,11 +1,11 @@
 -- One parser after another reads one language after another.
 use mathlib.Core.Path.{_≡_, refl, sym, ap, subst, _∙_}
 use mathlib.Core.Logic.{⊎-elim}
-use mathlib.Core.List.{List, [], _∷_, _++_, append-nil, append-assoc}
+use mathlib.Core.List.{List, _∷_, _++_, append-assoc}
 use Prim.Native.Nat.{ℕ}
 use Rattle.grammar.specs.declared.symbol.Symbol.{Symbol}
 use Rattle.grammar.specs.Prefixes.{Lang, Follows, Viable, Ends, Refused, Stuck, nothing}
-use Rattle.grammar.specs.Combinators.{Parsed, got, bad, Parser, after, bind}
+use Rattle.grammar.specs.Combinators.{got, bad, Parser, after, bind}
 use Rattle.grammar.proofs.Reading.{bindL, Reads}
 use Rattle.grammar.proofs.Cuts.{cuts, never, same-a, same-r, rebad, refused-same}
 

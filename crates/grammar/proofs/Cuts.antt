@@ -1,12 +1,11 @@
 -- Small facts of rows and of what was read.
-use mathlib.Core.Path.{_≡_, refl, sym, ap, subst, _∙_}
+use mathlib.Core.Path.{_≡_, refl}
 use mathlib.Core.Logic.{_⊎_, inl, inr, ⊎-elim}
 use mathlib.Core.List.{List, [], _∷_, _++_}
 use Prim.Native.Nat.{ℕ}
 use native.Mathlib.Omega.{arith}
 use Rattle.grammar.specs.declared.symbol.Symbol.{Symbol}
-use Rattle.grammar.specs.declared.symbol.Symbol.the-variants.{Digits}
-use Rattle.grammar.specs.Prefixes.{Lang, Follows, Viable, Ends, Refused, Stuck}
+use Rattle.grammar.specs.Prefixes.{Lang, Refused, Stuck}
 use Rattle.grammar.specs.Combinators.{Parsed, got, bad}
 
 -- where a row is cut

@@ -1,13 +1,13 @@
 -- A parser, and then one that reads to the end of the line.
 use mathlib.Core.Path.{_≡_, refl, sym, ap, subst, _∙_}
 use mathlib.Core.Logic.{⊎-elim}
-use mathlib.Core.List.{List, [], _∷_, _++_, append-nil, append-assoc}
+use mathlib.Core.List.{List, [], _∷_, _++_, append-assoc}
 use Prim.Native.Nat.{ℕ}
 use Rattle.model.specs.declared.line.Line.{Line}
 use Rattle.grammar.specs.declared.symbol.Symbol.{Symbol}
 use Rattle.grammar.specs.Prefixes.{Lang, Follows, Viable, Ends, Refused, Stuck, nothing}
 use Rattle.grammar.specs.Prefixes.{Again}
-use Rattle.grammar.specs.Combinators.{Parsed, got, bad, Parser, after, bind}
+use Rattle.grammar.specs.Combinators.{got, bad, Parser, after, bind}
 use Rattle.grammar.proofs.Reading.{bindL, Reads, Lines}
 use Rattle.grammar.proofs.Cuts.{cuts, never, same-a, same-r, rebad, refused-same, stuck-same}
 

@@ -1,21 +1,21 @@
 -- The end of a line, and a line that may end or go on.
 use mathlib.Core.Path.{_≡_, refl, sym, ap, subst, _∙_}
-use mathlib.Core.Logic.{_⊎_, inl, inr, ⊎-elim}
+use mathlib.Core.Logic.{inl, inr}
 use mathlib.Core.Bool.{Bool, true, false, cond}
-use mathlib.Core.List.{List, [], _∷_, _++_, append-nil}
+use mathlib.Core.List.{List, [], _∷_}
 use Prim.Native.Nat.{ℕ}
 use native.Mathlib.Omega.{arith}
 use Rattle.model.specs.declared.line.Line.{Line}
 use Rattle.grammar.specs.declared.symbol.Symbol.{Symbol}
 use Rattle.grammar.specs.declared.symbol.Symbol.the-variants.{Digits}
-use Rattle.grammar.specs.Prefixes.{Lang, Follows, Viable, Ends, IsDigits, Stuck}
+use Rattle.grammar.specs.Prefixes.{Lang, Follows, Viable, Stuck}
 use Rattle.grammar.specs.Prefixes.{Again}
 use Rattle.grammar.specs.Axes.{names}
 use Rattle.grammar.specs.declared.symbol.Tested.{Tested}
 use Rattle.grammar.specs.declared.symbol.Tested.the-variants.{Fits as fits, Over as over, Wrong as wrong}
-use Rattle.grammar.specs.Combinators.{Parsed, got, bad, Parser, after, tested, ends, or-more}
+use Rattle.grammar.specs.Combinators.{got, bad, Parser, after, tested, ends, or-more}
 use Rattle.grammar.proofs.Reading.{pureL, or-moreL, Lines}
-use Rattle.grammar.proofs.Cuts.{never, same-a, same-r, rebad, refused-same, empty-cons}
+use Rattle.grammar.proofs.Cuts.{never, refused-same, empty-cons}
 
 pub true-false : {P : Type 0} {v : Bool} → v ≡ true → v ≡ false → P
 true-false p q = absurd (let z : _≡_ {A = ℕ} 0 1 = cc in omega arith)

@@ -1,8 +1,8 @@
 -- The parser of axis words reads axis words, each axis at most once.
 use mathlib.Core.Path.{_≡_, refl, sym, ap, subst, _∙_}
-use mathlib.Core.Logic.{_⊎_, inl, inr, ⊎-elim}
+use mathlib.Core.Logic.{inl, inr}
 use mathlib.Core.Bool.{Bool, true, false}
-use mathlib.Core.List.{List, [], _∷_, _++_, append-nil}
+use mathlib.Core.List.{List, [], _∷_, _++_}
 use Prim.Native.Nat.{ℕ, _+_, _-_, _≤_, zero, suc}
 use native.Mathlib.Omega.{arith}
 use Rattle.model.specs.declared.expression.Value.{Value}
@@ -23,7 +23,7 @@ use Rattle.grammar.specs.Tests.{axis, digits}
 use Rattle.grammar.specs.Parser.{more, move}
 use Rattle.grammar.proofs.Lines.{lines-bind}
 use Rattle.grammar.proofs.Ones.{reads-one}
-use Rattle.grammar.proofs.Mores.{lines-more, true-false}
+use Rattle.grammar.proofs.Mores.{lines-more}
 use Rattle.grammar.proofs.Meets.{wrong-fits, upto-in, axis-over, axis-lawful, axis-is, digits-is}
 use Rattle.grammar.proofs.Terms.{reads-digits}
 use Rattle.grammar.proofs.Values.{reads-value}

@@ -1,15 +1,14 @@
 -- Parsers of nothing and of one token, and languages with the same rows.
-use mathlib.Core.Path.{_≡_, refl, sym, ap, subst, _∙_}
-use mathlib.Core.Logic.{_⊎_, inl, inr, ⊎-elim}
-use mathlib.Core.List.{List, [], _∷_, _++_, append-nil, append-assoc}
+use mathlib.Core.Path.{_≡_, refl, ap, subst, _∙_}
+use mathlib.Core.Logic.{inl, inr}
+use mathlib.Core.List.{List, [], _∷_, _++_}
 use Prim.Native.Nat.{ℕ}
 use native.Mathlib.Omega.{arith}
 use Rattle.grammar.specs.declared.symbol.Symbol.{Symbol}
-use Rattle.grammar.specs.declared.symbol.Symbol.the-variants.{Digits}
 use Rattle.grammar.specs.Prefixes.{Lang, Follows, Viable, Stuck, nothing}
 use Rattle.grammar.specs.declared.symbol.Tested.{Tested}
 use Rattle.grammar.specs.declared.symbol.Tested.the-variants.{Fits as fits, Over as over, Wrong as wrong}
-use Rattle.grammar.specs.Combinators.{Parsed, got, bad, Parser, tested, expect, pure}
+use Rattle.grammar.specs.Combinators.{got, bad, Parser, tested, expect, pure}
 use Rattle.grammar.proofs.Reading.{Reads, oneL, pureL, Lawful}
 use Rattle.grammar.proofs.Cuts.{stuck-same}
 use Rattle.model.specs.Limits.{limit}

@@ -1,7 +1,7 @@
 -- The parser of terms reads terms.
 use mathlib.Core.Path.{_≡_, refl, sym, ap, subst, _∙_}
-use mathlib.Core.Logic.{_⊎_, inl, inr, ⊎-elim}
-use mathlib.Core.List.{List, [], _∷_, _++_, append-nil}
+use mathlib.Core.Logic.{_⊎_, inl, inr}
+use mathlib.Core.List.{List, [], _∷_, _++_}
 use Prim.Native.Nat.{ℕ, _≤_}
 use native.Mathlib.Omega.{arith}
 use lib.IntN.{pos, negℤ}
@@ -17,9 +17,9 @@ use Rattle.grammar.specs.Prefixes.{Lang}
 use Rattle.grammar.specs.Grammar.{parameter-of, TermIs}
 use Rattle.grammar.specs.Grammar as is
 use Rattle.grammar.specs.declared.symbol.Tested.the-variants.{Fits as fits}
-use Rattle.grammar.specs.Combinators.{Parser, bind, pure, expect}
+use Rattle.grammar.specs.Combinators.{bind, pure, expect}
 use Rattle.grammar.proofs.Reading.{Reads, bindL, pureL, oneL}
-use Rattle.grammar.specs.Tests.{mixed, digits}
+use Rattle.grammar.specs.Tests.{digits}
 use Rattle.grammar.specs.Parser.{term-words, term-first, term-rest, term}
 use Rattle.grammar.proofs.Binds.{reads-bind}
 use Rattle.grammar.proofs.Ones.{reads-same, reads-pure, reads-one}

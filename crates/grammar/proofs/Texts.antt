@@ -1,11 +1,11 @@
 -- From rows of symbols to texts: what a text is answered is an answer by the grammar.
 use mathlib.Core.Path.{_≡_, refl, sym, ap, subst, _∙_}
 use mathlib.Core.Bool.{Bool, true, false, cond, _&&_}
-use mathlib.Core.List.{List, [], _∷_, _++_, map}
+use mathlib.Core.List.{List, [], _∷_, _++_}
 use Prim.Native.Nat.{ℕ, _+_, _-_, _≤_, _<_, zero, suc}
 use native.Mathlib.Omega.{arith}
 use lib.Dec.{leb, eqb}
-use lib.ListN.{length, take, drop, getD, length-append}
+use lib.ListN.{length, drop, getD, length-append}
 use Rattle.std.proofs.shelf.Ways.{tells}
 use Rattle.std.proofs.shelf.Tests.{eq-eqb}
 use Rattle.model.specs.declared.line.Line.{Line}
@@ -15,7 +15,7 @@ use Rattle.grammar.specs.Combinators.{Parsed, got, bad}
 use Rattle.grammar.specs.Grammar.{LineIs}
 use Rattle.grammar.specs.Parser.{line}
 use Rattle.grammar.specs.Symbols.{symbol-of, symbols}
-use Rattle.grammar.specs.Answer.{Answer, read, refused, front, answered, reading, permitted, clear, answer}
+use Rattle.grammar.specs.Answer.{read, refused, front, answered, reading, permitted, clear, answer}
 use Rattle.grammar.specs.Law.{Allowed, Clean, RefusedAt, Answers, too-long, spoilt, accepted, stuck}
 use Rattle.lexer.specs.Lexemes.{Lexeme, LexemesAre, lexemes}
 use Rattle.lexer.proofs.Lexemes.{has-lexemes}

@@ -1,10 +1,9 @@
 -- A text has one answer only: no two refusals fit it, and none fits a line.
 use mathlib.Core.Path.{_≡_, refl, sym, ap, subst, _∙_}
 use mathlib.Core.Logic.{_⊎_, inl, inr, ⊎-elim}
-use mathlib.Core.Bool.{Bool, true, false}
+use mathlib.Core.Bool.{false}
 use mathlib.Core.List.{List, [], _∷_, _++_, append-nil, append-assoc}
 use Prim.Native.Nat.{ℕ}
-use native.Mathlib.Omega.{arith}
 use lib.ListN.{length}
 use Rattle.lexer.specs.Lexemes.{Lexeme, lexemes}
 use Rattle.lexer.proofs.Lexemes.{only-lexemes}
@@ -18,7 +17,7 @@ use Rattle.grammar.specs.Combinators.{Parsed, got, bad}
 use Rattle.grammar.specs.Grammar.{LineIs}
 use Rattle.grammar.specs.Parser.{line}
 use Rattle.grammar.specs.Symbols.{symbol-of, symbols}
-use Rattle.grammar.specs.Answer.{Answer, read, refused, front, answered, reading, answer}
+use Rattle.grammar.specs.Answer.{Answer, refused, front, answered, answer}
 use Rattle.grammar.specs.Law.{RefusedAt, Answers, too-long, spoilt, accepted, stuck, TheAnswer}
 use Rattle.grammar.proofs.Mores.{true-false}
 use Rattle.grammar.proofs.Texts.{long-answer, byte-answer, clean-answer, clear-to, accepts-at, lawful-at, refuses-at, is-an-answer}

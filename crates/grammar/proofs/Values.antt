@@ -2,20 +2,17 @@
 use mathlib.Core.Path.{_≡_, refl, sym, ap, subst, _∙_}
 use mathlib.Core.Logic.{_⊎_, inl, inr, ⊎-elim}
 use mathlib.Core.List.{List, [], _∷_, _++_, append-nil}
-use Prim.Native.Nat.{ℕ, _≤_}
 use native.Mathlib.Omega.{arith}
-use Rattle.model.specs.declared.expression.Term.{Term}
 use Rattle.model.specs.declared.expression.Term.the-variants.{Number}
 use lib.IntN.{pos}
 use Rattle.model.specs.declared.expression.Op.{Op}
 use Rattle.model.specs.declared.expression.Op.the-variants.{Add, Sub, Mul}
 use Rattle.model.specs.declared.expression.Value.{Value}
-use Rattle.model.specs.declared.expression.Rel.{Rel}
 use Rattle.model.specs.declared.expression.Condition.{Condition}
 use Rattle.grammar.specs.declared.symbol.Keyword.{Keyword}
-use Rattle.grammar.specs.declared.symbol.Keyword.the-variants.{Hash, Open, Close, Plus, Minus, Star}
+use Rattle.grammar.specs.declared.symbol.Keyword.the-variants.{Open, Close, Plus, Minus, Star}
 use Rattle.grammar.specs.declared.symbol.Symbol.{Symbol}
-use Rattle.grammar.specs.declared.symbol.Symbol.the-variants.{Fixed, Digits, Relation}
+use Rattle.grammar.specs.declared.symbol.Symbol.the-variants.{Fixed, Relation}
 use Rattle.grammar.specs.declared.symbol.TermStart.{TermStart}
 use Rattle.grammar.specs.declared.symbol.TermStart.the-variants.{Whole as whole, Plus as plus, Minus as minus, Hash as hash}
 use Rattle.grammar.specs.declared.symbol.ValueStart.{ValueStart}
@@ -24,10 +21,10 @@ use Rattle.grammar.specs.Prefixes.{Lang}
 use Rattle.grammar.specs.Grammar.{TermIs, OpIs, ValueIs, ConditionIs}
 use Rattle.grammar.specs.Grammar as is
 use Rattle.grammar.specs.declared.symbol.Tested.the-variants.{Fits as fits}
-use Rattle.grammar.specs.Combinators.{Parser, bind, pure, expect}
+use Rattle.grammar.specs.Combinators.{expect}
 use Rattle.grammar.proofs.Reading.{Reads, bindL, pureL, oneL}
-use Rattle.grammar.specs.Tests.{choose, words, mixed, digits, only, relation}
-use Rattle.grammar.specs.Parser.{term-words, term-rest, term, value-words, value-first, value-rest, value, operator, bracket, condition}
+use Rattle.grammar.specs.Tests.{choose, only, relation}
+use Rattle.grammar.specs.Parser.{term-words, term, value-words, value-first, value-rest, value, operator, bracket, condition}
 use Rattle.grammar.proofs.Binds.{reads-bind}
 use Rattle.grammar.proofs.Ones.{reads-same, reads-pure, reads-one}
 use Rattle.grammar.proofs.Meets.{In, upto-in, mixed-lawful, mixed-is, words-lawful, words-is, only-is, relation-lawful, relation-is}

@@ -1,7 +1,7 @@
 -- What a text is answered: the line that it is, or the number of its refusal with a place in the text.
 -- A text of more than 120 bytes is refused with 11 at 120, one with a byte that is not from 32 to 126 with 12 at the first
 -- such byte; any other is read symbol by symbol. The law of this answer, in the grammar's words, is in Law.
-use mathlib.Core.Bool.{Bool, true, false, cond, _&&_}
+use mathlib.Core.Bool.{Bool, cond, _&&_}
 use mathlib.Core.List.{List, [], _∷_}
 use Prim.Native.Nat.{ℕ, _-_, suc}
 use lib.Dec.{leb, eqb}

@@ -35,13 +35,13 @@ IsDigits (Relation r) = ⊥
 IsDigits Unknown = ⊥
 
 -- t is digits, and stands where some digits may follow
-abbrev pub Awaited : Symbol → (Symbol → Type 0) → Type 0
-Awaited t F = IsDigits t × ((n : ℕ) × F (Digits n))
+abbrev pub Expected : Symbol → (Symbol → Type 0) → Type 0
+Expected t F = IsDigits t × ((n : ℕ) × F (Digits n))
 
 -- the number of the refusal at the symbol t, where F may follow and N is named already: 15 for what is named already,
--- 14 for awaited digits beyond their limit, 13 for anything else
+-- 14 for digits out of bounds where digits may stand, 13 for anything else
 abbrev pub Cause : ℕ → Symbol → (Symbol → Type 0) → (Symbol → Type 0) → Type 0
-Cause k t F N = ((k ≡ 15) × N t) ⊎ (((k ≡ 14) × Awaited t F) ⊎ ((k ≡ 13) × (Awaited t F → ⊥) × (N t → ⊥)))
+Cause k t F N = ((k ≡ 15) × N t) ⊎ (((k ≡ 14) × Expected t F) ⊎ ((k ≡ 13) × (Expected t F → ⊥) × (N t → ⊥)))
 
 -- k is the number of the refusal at the first symbol of rest, which may not follow; or rest is empty, and no row ends here
 abbrev pub Refused : ℕ → List Symbol → (Symbol → Type 0) → Type 0 → (Symbol → Type 0) → Type 0

@@ -1,7 +1,7 @@
 -- What a token is to the grammar, from its bytes: letters are compared without case, a run of digits counts by its number
 -- if it has at most eight digits, and a token that the grammar does not have is unknown.
-use mathlib.Core.Bool.{Bool, true, false, cond}
-use mathlib.Core.List.{List, [], _∷_, map}
+use mathlib.Core.Bool.{cond}
+use mathlib.Core.List.{List, map}
 use Prim.Native.Nat.{ℕ}
 use lib.Chars.{codes}
 use lib.Dec.{leb, eqb}

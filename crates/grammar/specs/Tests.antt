@@ -1,6 +1,6 @@
 -- The tests that a symbol is put to where it stands: one of some keywords, digits from lo to hi, an axis, a relation;
 -- and what the outcome of a test is answered.
-use mathlib.Core.Bool.{Bool, true, false, cond, _&&_}
+use mathlib.Core.Bool.{cond, _&&_}
 use mathlib.Core.List.{List, [], _∷_}
 use Prim.Native.Nat.{ℕ}
 use lib.Dec.{leb, eqb}
@@ -83,7 +83,7 @@ relation (Letter a) = wrong
 relation (Relation r) = fits r
 relation Unknown = wrong
 
--- where a symbol is awaited, the end of the text is wrong
+-- where a symbol is expected, the end of the text is wrong
 abbrev pub tried : {A : Type 0} → (Symbol → Tested A) → Option Symbol → Tested A
 tried f None = wrong
 tried f (Some t) = f t

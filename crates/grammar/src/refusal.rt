@@ -8,11 +8,11 @@ pub enum Cause {
     Length,
     // a byte that no line has
     Byte,
-    // no line goes on so
+    // a token that does not belong there
     Unexpected,
-    // digits that are awaited, beyond their limit
+    // a number out of bounds, where one may stand
     Limit,
-    // an axis that is named twice
+    // an axis that the move has named before
     Twice,
 }
 

@@ -40,7 +40,7 @@ pub struct Item {
     pub symbol: Option<Symbol>,
 }
 
-// What a symbol is where one is awaited: fitting, digits beyond their limit, or another.
+// What a symbol is where it stands: one that fits, a number out of bounds, or another.
 #[derive(Clone, Copy)]
 pub enum Tested<A> {
     Fits(A),

@@ -2,7 +2,7 @@
 use mathlib.Core.Path.{_≡_, refl, sym, ap, subst, _∙_}
 use mathlib.Core.Bool.{Bool, true, false, cond, _&&_, _||_}
 use mathlib.Core.List.{List, [], _∷_}
-use Prim.Native.Nat.{ℕ, _+_, _≤_, _<_, suc}
+use Prim.Native.Nat.{ℕ, _≤_, _<_, suc}
 use native.Mathlib.Omega.{arith}
 use lib.Dec.{leb, eqb}
 use lib.ListN.{length, getD, take, drop, length-drop}
@@ -12,7 +12,6 @@ use Rattle.std.proofs.shelf.Ways.{tells}
 use Rattle.std.proofs.shelf.Text.{digitValue-digit}
 use Rattle.std.specs.Text.{digitValue}
 use Rattle.std.specs.Reads.{Digits}
-use Rattle.lexer.specs.declared.class.Class.{Class}
 use Rattle.lexer.specs.declared.class.Class.the-variants.{Letter, Digit, Mark, Blank}
 use Rattle.lexer.specs.declared.token.Token.{Token}
 use Rattle.lexer.specs.Classes.{class, same, run}

@@ -1,17 +1,15 @@
 -- The token behind the blanks is the next one of the text.
-use mathlib.Core.Path.{_≡_, refl, sym, ap, subst, _∙_}
-use mathlib.Core.List.{List, [], _∷_}
-use Prim.Native.Nat.{ℕ, _+_, _-_, _≤_, _<_}
+use mathlib.Core.Path.{_≡_, ap, _∙_}
+use mathlib.Core.List.{List}
+use Prim.Native.Nat.{ℕ, _+_, _-_, _≤_}
 use native.Mathlib.Omega.{arith}
-use lib.ListN.{length, getD, take, drop, length-drop}
-use lib.Seq.{length-take-le}
+use lib.ListN.{length, take, drop, length-drop}
 use denote.Ref.{RefT}
 use Rattle.std.proofs.shelf.Parts.{between-to-end}
-use Rattle.std.proofs.shelf.Lists.{drop-drop}
 use Rattle.std.specs.declared.option.Option.the-variants.{Some, None}
 use Rattle.lexer.specs.declared.class.Class.the-variants.{Blank}
 use Rattle.lexer.specs.Classes.{run}
-use Rattle.lexer.specs.Parts.{size, Part, Cut, start, Found, Next}
+use Rattle.lexer.specs.Parts.{size, Cut, start, Found, Next}
 
 rest-is : (s : List ℕ) (n : ℕ) → take (length s - n) (drop n s) ≡ drop n s
 rest-is s n = between-to-end s n (length s) (omega arith)

@@ -1,6 +1,6 @@
 -- The next token of a text heads the list of its tokens.
 use mathlib.Core.Path.{_≡_, refl, sym, ap, subst, _∙_}
-use mathlib.Core.Bool.{Bool, true, false, cond}
+use mathlib.Core.Bool.{true, false, cond}
 use mathlib.Core.List.{List, [], _∷_}
 use Prim.Native.Nat.{ℕ, _+_, _-_, _≤_, _<_, zero, suc}
 use native.Mathlib.Omega.{arith}
@@ -12,7 +12,7 @@ use Rattle.lexer.specs.declared.class.Class.the-variants.{Letter, Digit, Mark,
 use Rattle.lexer.specs.declared.token.Token.{Token}
 use Rattle.lexer.specs.Classes.{class, same, run}
 use Rattle.lexer.specs.Parts.{size, size-by, start, Found}
-use Rattle.lexer.specs.Lexemes.{Lexeme, lexemes-from}
+use Rattle.lexer.specs.Lexemes.{lexemes-from}
 
 skip : (n p : ℕ) (s : List ℕ) → n ≤ length s → lexemes-from n p s ≡ lexemes-from 0 (p + n) (drop n s)
 skip zero p s h = ap (λ m. lexemes-from 0 m s) (omega arith)

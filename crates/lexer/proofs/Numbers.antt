@@ -1,12 +1,11 @@
 -- The number that a run of digits writes, digit by digit, and how large it is.
-use mathlib.Core.Path.{_≡_, refl, sym, ap, subst, _∙_}
+use mathlib.Core.Path.{_≡_}
 use mathlib.Core.List.{List, [], _∷_}
 use Prim.Native.Nat.{ℕ, _+_, _-_, _*_, _^_, _≤_, _<_, suc, zero}
 use native.Mathlib.Omega.{arith}
 use lib.ListN.{length, getD, take}
 use lib.Seq.{length-take-le}
 use native.Mathlib.Nat.{pow-le-pow-right}
-use borrow.Author.Needs.{needs}
 use Rattle.std.proofs.shelf.Digits.{value-lt, value-more}
 use Rattle.std.proofs.shelf.Numerals.{digit-at}
 use Rattle.std.proofs.shelf.Text.{digitValue-digit}

@@ -1,7 +1,7 @@
 -- Runs of one class, step by step, and a cut behind the first token.
-use mathlib.Core.Path.{_≡_, refl, sym, ap, subst, _∙_}
-use mathlib.Core.Bool.{Bool, true, false, cond}
-use mathlib.Core.List.{List, [], _∷_}
+use mathlib.Core.Path.{_≡_, sym, ap, _∙_}
+use mathlib.Core.Bool.{true, false, cond}
+use mathlib.Core.List.{List}
 use Prim.Native.Nat.{ℕ, _+_, _-_, _≤_, _<_, suc}
 use native.Mathlib.Omega.{arith}
 use lib.ListN.{length, getD, take, drop}
@@ -11,7 +11,7 @@ use denote.Ref.{RefT}
 use Rattle.std.specs.declared.option.Option.the-variants.{Some}
 use Rattle.lexer.specs.declared.class.Class.the-variants.{Mark}
 use Rattle.lexer.specs.Classes.{class, same, run}
-use Rattle.lexer.specs.Parts.{size, size-by, Part, Cut}
+use Rattle.lexer.specs.Parts.{size, size-by, Cut}
 
 pub on : (k : Class) (s : List ℕ) (i : ℕ) → i < length s → run k s ≡ i + run k (drop i s) → same (class (getD s i 0)) k ≡ true → run k s ≡ (i + 1) + run k (drop (i + 1) s)
 on k s i h e t = let m = at-drop-more (run k) s i 0 h in let v : run k (drop i s) ≡ suc (run k (drop (i + 1) s)) = m ∙ ap (λ b. cond b (suc (run k (drop (i + 1) s))) 0) t in omega arith

@@ -30,7 +30,7 @@ pub data IsToken : List ℕ → List ℕ → Type 0 where
   digits : {s : List ℕ} (b : ℕ) (bs : List ℕ) → All (λ c. class c ≡ Digit) (b ∷ bs) → Stops Digit s → IsToken (b ∷ bs) s
   mark : {s : List ℕ} (b : ℕ) → class b ≡ Mark → IsToken (b ∷ []) s
 
--- the tokens of s, which stands at the place p; blanks may stand around them
+-- the tokens of s, which stands at the place p, with blanks skipped
 pub data LexemesAre : ℕ → List ℕ → List Lexeme → Type 0 where
   none : {p : ℕ} → LexemesAre p [] []
   blank : {p : ℕ} {s : List ℕ} {ls : List Lexeme} (b : ℕ) → class b ≡ Blank → LexemesAre (p + 1) s ls → LexemesAre p (b ∷ s) ls

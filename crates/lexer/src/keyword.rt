@@ -8,7 +8,7 @@ fn upper_of(b: u8) -> u8
     if b >= b'a' && b <= b'z' { b - 32 } else { b }
 }
 
-// Whether the bytes spell the word, small letters counting as capitals.
+// Whether the bytes spell the word, in either case.
 pub fn is_keyword(s: &[u8], w: &[u8]) -> bool
     ensures { λ r. ⌜ r ≡ spells (now (s .entry)) (now (w .entry)) ⌝ }
 {

@@ -6,7 +6,6 @@ use Prim.Native.Nat.{ℕ, _+_}
 use lib.Dec.{eqb}
 use Rattle.std.specs.declared.option.Option.{Option}
 use Rattle.std.specs.declared.option.Option.the-variants.{Some, None}
-use Rattle.model.specs.declared.expression.Condition.{Condition}
 use Rattle.model.specs.declared.line.Line.{Line}
 use Rattle.model.specs.declared.line.Line.the-variants.{Plain, Setting, Move, While, If, EndIf, EndWhile}
 use Rattle.model.specs.declared.block.BlockKind.{BlockKind}

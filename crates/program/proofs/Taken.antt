@@ -1,13 +1,13 @@
 -- A line that is taken makes the program one line longer.
-use mathlib.Core.Path.{_≡_, refl, ap, _∙_}
+use mathlib.Core.Path.{_≡_, _∙_}
 use mathlib.Core.Bool.{Bool, true, false, cond}
-use mathlib.Core.List.{List, [], _∷_, _++_}
-use Prim.Native.Nat.{ℕ, _+_, suc}
+use mathlib.Core.List.{List, [], _∷_}
+use Prim.Native.Nat.{ℕ, suc}
 use native.Mathlib.Omega.{arith}
 use lib.Dec.{leb}
 use lib.ListN.{length, length-append}
 use Rattle.std.specs.declared.option.Option.{Option}
-use Rattle.std.specs.declared.option.Option.the-variants.{Some, None}
+use Rattle.std.specs.declared.option.Option.the-variants.{None}
 use Rattle.std.specs.declared.result.Result.{Result}
 use Rattle.std.specs.declared.result.Result.the-variants.{Ok, Err}
 use Rattle.model.specs.declared.line.Line.{Line}
@@ -15,7 +15,7 @@ use Rattle.grammar.specs.Answer.{Answer, read, refused, answer}
 use Rattle.program.specs.declared.refusal.TableRefusal.{TableRefusal}
 use Rattle.program.specs.declared.refusal.TableRefusal.the-variants.{Lines}
 use Rattle.program.specs.Refusals.{max-lines, push-answer, pushed, table-number}
-use Rattle.program.specs.Entry.{LineAnswer, taken, turned-down, by-table, by-text, with-answer, line-answer, lines-after}
+use Rattle.program.specs.Entry.{taken, turned-down, by-table, by-text, with-answer, line-answer, lines-after}
 
 not-taken : {P : Type 0} {k : ℕ} {p : Option ℕ} → turned-down k p ≡ taken → P
 not-taken e = absurd (let z : _≡_ {A = ℕ} 0 1 = cc in omega arith)

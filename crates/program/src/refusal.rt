@@ -1,33 +1,19 @@
 // Why a program takes no line.
 ghost use mathlib.Core.Path.{_≡_};
-ghost use Rattle.program.specs.Refusals.{table-number};
 ghost use Rattle.program.specs.Entry.{line-number, line-place};
 use grammar::refusal::Refusal;
 
 // Why a line that was read is not taken.
 #[derive(Clone, Copy)]
 pub enum TableRefusal {
-    // 128 lines are held
+    // the table of lines is full
     Lines,
-    // the end is unlike the innermost open block in label or kind, or no block is open
+    // the end does not match the innermost open block, or finds none open
     End,
-    // an earlier block has the label
+    // the label was used before
     Label,
-    // 16 blocks are held
+    // the table of blocks is full
     Blocks,
-}
-
-impl TableRefusal {
-    pub fn number(self) -> u32
-        ensures { λ r. ⌜ r ≡ table-number self ⌝ }
-    {
-        match self {
-            TableRefusal::Lines => 21,
-            TableRefusal::End => 22,
-            TableRefusal::Label => 23,
-            TableRefusal::Blocks => 24,
-        }
-    }
 }
 
 // Why a text is not taken as the next line.
@@ -43,7 +29,10 @@ impl LineRefusal {
     {
         match self {
             LineRefusal::Text(e) => e.cause.number(),
-            LineRefusal::Table(e) => e.number(),
+            LineRefusal::Table(TableRefusal::Lines) => 21,
+            LineRefusal::Table(TableRefusal::End) => 22,
+            LineRefusal::Table(TableRefusal::Label) => 23,
+            LineRefusal::Table(TableRefusal::Blocks) => 24,
         }
     }
 

@@ -1,6 +1,5 @@
 -- Digits that were read are within their limit.
-use mathlib.Core.Path.{_≡_, refl, sym, ap, subst, _∙_}
-use mathlib.Core.List.{[]}
+use mathlib.Core.Path.{_≡_, refl, sym, subst}
 use Prim.Native.Nat.{ℕ, _≤_}
 use Rattle.std.specs.declared.option.Option.{Option}
 use Rattle.std.specs.declared.option.Option.the-variants.{Some, None}
@@ -12,7 +11,6 @@ use Rattle.grammar.specs.declared.symbol.Tested.{Tested}
 use Rattle.grammar.specs.declared.symbol.Tested.the-variants.{Fits as fits, Over as over, Wrong as wrong}
 use Rattle.grammar.specs.Tests.{digits, tried, outcome}
 use Rattle.grammar.proofs.Meets.{digits-is}
-use Rattle.model.specs.Limits.{limit}
 
 most-at : (lo hi p : ℕ) (t : Symbol) (v : Tested ℕ) → digits lo hi t ≡ v → made (outcome (v) p) (λ n. n ≤ hi)
 most-at lo hi p t (fits n) e = digits-is lo hi t n e .2

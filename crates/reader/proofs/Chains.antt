@@ -1,9 +1,8 @@
 -- One method of the reader after another does what one parser after another reads.
 use mathlib.Core.Path.{_≡_, refl, sym, ap, subst, _∙_}
-use mathlib.Core.Bool.{Bool, true, false, cond}
+use mathlib.Core.Bool.{true, false, cond}
 use mathlib.Core.List.{List, [], _∷_, _++_, append-assoc}
-use Prim.Native.Nat.{ℕ, _≤_}
-use native.Mathlib.Omega.{arith}
+use Prim.Native.Nat.{ℕ}
 use lib.ListN.{length}
 use Rattle.std.specs.declared.option.Option.{Option}
 use Rattle.std.specs.declared.option.Option.the-variants.{Some, None}
@@ -14,7 +13,7 @@ use Rattle.lexer.specs.Lexemes.{Lexeme}
 use Rattle.model.specs.declared.line.Line.{Line}
 use Rattle.grammar.specs.declared.symbol.Symbol.{Symbol}
 use Rattle.grammar.specs.declared.symbol.Item.{Item}
-use Rattle.grammar.specs.declared.refusal.Cause.the-variants.{Unexpected, Limit, Twice}
+use Rattle.grammar.specs.declared.refusal.Cause.the-variants.{Unexpected, Twice}
 use Rattle.grammar.specs.declared.refusal.Refusal.{Refusal}
 use Rattle.grammar.specs.Axes.{names}
 use Rattle.grammar.specs.declared.symbol.Tested.{Tested}
@@ -139,7 +138,7 @@ module _ {A : Type 0} (l : Line) (f : Symbol → Tested A) (q : A → Parser Lin
         says = subst (λ v. Agrees v (length (a .text .now)) (ahead a) (Err (record { cause = Twice; place = i .place })) (ahead b)) (sym is) (refl, refused-here (ahead a) (ahead b) _ (i .place) (n .0) (n .1) (n .2));
       }
 
-  -- a token that is not named is read as one that is awaited
+  -- a token that is not named is read as one that is expected
   pub parses-more : (s : Symbol) (r : Result Line Refusal) (c : Lexer) → i .symbol ≡ Some s → names l s ≡ false → Parses (bind (expect f) q) a r c → Parses (or-more l f q) a r c
   parses-more s r c e h d =
       let n = subst (λ s. Next (ahead a) (length (a .text .now)) (i .place) s (ahead b)) e (t .next) in

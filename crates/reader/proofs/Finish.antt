@@ -1,7 +1,7 @@
 -- What the reader did is what the text is answered.
-use mathlib.Core.Path.{_≡_, refl, sym, ap, subst, _∙_}
-use mathlib.Core.Bool.{Bool, true, false, cond, _&&_}
-use mathlib.Core.List.{List, [], _∷_, _++_}
+use mathlib.Core.Path.{_≡_, sym, ap, _∙_}
+use mathlib.Core.Bool.{true, false, cond}
+use mathlib.Core.List.{List}
 use Prim.Native.Nat.{ℕ, _+_, _-_, _≤_, _<_, suc}
 use native.Mathlib.Omega.{arith}
 use lib.Dec.{leb, eqb}
@@ -17,7 +17,7 @@ use Rattle.grammar.specs.declared.refusal.Refusal.{Refusal}
 use Rattle.grammar.specs.Combinators.{Parsed, got, bad}
 use Rattle.grammar.specs.Parser.{line}
 use Rattle.grammar.specs.Symbols.{symbols}
-use Rattle.grammar.specs.Answer.{Answer, said, read, refused, front, answered, reading, permitted, clear, answer}
+use Rattle.grammar.specs.Answer.{said, read, refused, front, answered, reading, permitted, clear, answer}
 use Rattle.lexer.specs.Lexemes.{Lexeme, lexemes, lexemes-from}
 use Rattle.reader.specs.Parses.{ahead, Agrees, Parses}
 use Rattle.grammar.proofs.Texts.{dropped}

@@ -1,10 +1,8 @@
 -- The reader's axis words: what one turn does.
 use mathlib.Core.Path.{_≡_, refl, sym, ap, subst, _∙_}
-use mathlib.Core.Bool.{Bool, true, false}
-use mathlib.Core.List.{List, [], _∷_}
-use Prim.Native.Nat.{ℕ, _+_, _-_, _≤_, _<_, zero, suc}
+use mathlib.Core.Bool.{true, false}
+use Prim.Native.Nat.{ℕ, _-_, _<_, zero, suc}
 use native.Mathlib.Omega.{arith}
-use lib.ListN.{length}
 use Rattle.std.specs.declared.option.Option.the-variants.{Some, None}
 use Rattle.std.specs.declared.result.Result.{Result}
 use Rattle.std.specs.declared.result.Result.the-variants.{Ok, Err}
@@ -20,7 +18,7 @@ use Rattle.grammar.specs.declared.symbol.Symbol.the-variants.{Fixed, Digits, Lo
 use Rattle.grammar.specs.declared.symbol.Item.{Item}
 use Rattle.grammar.specs.declared.refusal.Refusal.{Refusal}
 use Rattle.grammar.specs.declared.refusal.Cause.the-variants.{Twice}
-use Rattle.grammar.specs.Axes.{given, has, put, has-symbol, tally, count, moved}
+use Rattle.grammar.specs.Axes.{given, has, put, has-symbol, count, moved}
 use Rattle.grammar.specs.Combinators.{Parser, bad, bind, expect, or-more}
 use Rattle.grammar.specs.Tests.{axis, tried, outcome}
 use Rattle.grammar.specs.Parser.{value, more, more-words}

@@ -1,4 +1,4 @@
-// The reader of a line over its lexer: one method for each symbol that is awaited.
+// The reader of a line over its lexer: one method for each symbol that is expected.
 ghost use mathlib.Core.Path.{_≡_};
 ghost use Prim.Native.Nat.{_≤_};
 ghost use Rattle.std.specs.Vec.{made};

@@ -68,12 +68,6 @@ impl Program {
         }
     }
 
-    pub fn clear(&mut self)
-        ensures { λ _. ⌜ held (now (self .exit)) ≡ [] ⌝ }
-    {
-        *self = Program::new();
-    }
-
     // The number of the innermost open block, if an end of this kind and label fits it.
     fn fitting(&self, kind: BlockKind, label: u16) -> Option<usize>
         ensures test { λ r. ⌜ isSome r ≡ fits (open-blocks (held (now (self .entry)))) kind label ⌝ }

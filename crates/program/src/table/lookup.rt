@@ -22,7 +22,7 @@ impl Program {
     }
 
     // Whether the next line is refused, whatever it is.
-    pub fn is_full(&self) -> bool
+    pub(super) fn is_full(&self) -> bool
         ensures { λ r. ⌜ r ≡ leb max-lines (length (held (now (self .entry)))) ⌝ }
     {
         self.line_count >= MAX_LINES

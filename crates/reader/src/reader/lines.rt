@@ -1,5 +1,4 @@
 // The reader's methods for whole lines.
-ghost use mathlib.Core.Path.{_≡_};
 ghost use Rattle.reader.specs.Parses.{Parses};
 ghost use Rattle.grammar.specs.Combinators.{ends};
 ghost use Rattle.grammar.specs.Parser.{setting, more-words, move, block-rest, block, line-rest, line};

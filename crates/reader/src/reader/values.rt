@@ -1,5 +1,4 @@
 // The reader's methods for terms, values and conditions.
-ghost use mathlib.Core.Path.{_≡_};
 ghost use Rattle.reader.specs.Parses.{Parses};
 ghost use Rattle.grammar.specs.Parser.{term-rest, term, value-rest, value, bracket, comparison, condition};
 use crate::reader::Reader;

@@ -1,4 +1,4 @@
-use mathlib.Core.Path.{_∙_, ap, sym}
+use mathlib.Core.Path.{_∙_, ap}
 use native.Mathlib.Omega.{arith}
 use Rattle.console.specs.Report.{refused-at, rest, stopped, refusal-number}
 use Rattle.console.proofs.Reports.{long-report, short-report, the-report}

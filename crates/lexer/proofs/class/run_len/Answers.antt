@@ -1,6 +1,5 @@
-use mathlib.Core.Path.{_≡_, refl, sym, ap, _∙_}
+use mathlib.Core.Path.{sym}
 use native.Mathlib.Omega.{arith}
-use borrow.Author.Needs.{needs}
 use Rattle.lexer.proofs.Runs.{on, stop, end}
 use Rattle.lexer.proofs.class.run_len.Needs as need
 

@@ -1,10 +1,6 @@
-use mathlib.Core.Path.{_≡_, refl, sym, ap, _∙_}
-use Prim.Native.Nat.{_<_, _^_, _≤_}
+use mathlib.Core.Path.{_≡_, ap, _∙_}
 use native.Mathlib.Omega.{arith}
-use lib.ListN.{getD, take, length}
-use borrow.Author.Needs.{needs}
 use Rattle.std.specs.Reads.{value}
-use Rattle.std.specs.Text.{In}
 use Rattle.std.proofs.shelf.Numerals.{digit-at}
 use Rattle.std.proofs.shelf.Lists.{take-all}
 use Rattle.lexer.proofs.Numbers.{small, more, below}

@@ -1,6 +1,4 @@
-use mathlib.Core.Path.{_≡_, sym, _∙_}
 use native.Mathlib.Omega.{arith}
-use borrow.Author.Needs.{needs}
 use Rattle.lexer.proofs.Spelling.{unlike, more, differ, whole}
 use Rattle.lexer.proofs.keyword.is_keyword.Needs as need
 

@@ -1,7 +1,4 @@
-use mathlib.Core.Path.{_≡_, refl, sym, ap, _∙_}
-use native.Mathlib.Omega.{arith}
-use Prim.Native.Nat.{ℕ, _≤_, _+_}
-use borrow.Author.Needs.{needs}
+use mathlib.Core.Path.{refl}
 use Rattle.lexer.proofs.Found.{none-left, found, shorter}
 use Rattle.lexer.proofs.Heads.{found-heads, none-heads}
 use Rattle.lexer.proofs.lexer.Lexer.next.Needs as need

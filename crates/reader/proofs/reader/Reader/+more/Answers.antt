@@ -1,11 +1,8 @@
-use mathlib.Core.Path.{_≡_, sym, ap, subst, _∙_}
-use mathlib.Core.Bool.{false}
+use mathlib.Core.Path.{sym, ap, _∙_}
 use native.Mathlib.Omega.{arith}
-use borrow.Author.Needs.{needs}
 use Rattle.std.proofs.shelf.Results.{err-from-errBy}
 use Rattle.grammar.specs.Axes.{has, count}
 use Rattle.grammar.specs.Parser.{more-words}
-use Rattle.reader.specs.Parses.{Parses}
 use Rattle.grammar.specs.Tests.{outcome}
 use Rattle.reader.proofs.Chains.{parses-same}
 use Rattle.reader.proofs.Words.{words-refused, words-twice, words-stop, words-then, fewer}

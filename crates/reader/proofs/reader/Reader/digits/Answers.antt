@@ -1,5 +1,4 @@
-use mathlib.Core.Path.{_≡_, refl, sym, ap, subst, _∙_}
-use borrow.Author.Needs.{needs}
+use mathlib.Core.Path.{ap, _∙_}
 use Rattle.grammar.specs.Tests.{digits, outcome}
 use Rattle.reader.proofs.Chains.{parses-leaf}
 use Rattle.reader.proofs.Bounds.{at-most}

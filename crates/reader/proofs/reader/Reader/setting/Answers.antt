@@ -1,4 +1,3 @@
-use mathlib.Core.Path.{sym, subst}
 use Rattle.std.proofs.shelf.Results.{err-from-errBy}
 use Rattle.grammar.specs.declared.symbol.Keyword.the-variants.{Equals}
 use Rattle.model.specs.declared.line.Line.the-variants.{Setting}

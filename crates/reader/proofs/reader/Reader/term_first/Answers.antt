@@ -1,4 +1,4 @@
-use mathlib.Core.Path.{_≡_, refl, sym, ap, _∙_}
+use mathlib.Core.Path.{ap, _∙_}
 use Rattle.grammar.specs.Parser.{term-first}
 use Rattle.grammar.specs.Tests.{outcome}
 use Rattle.reader.proofs.Chains.{parses-leaf}

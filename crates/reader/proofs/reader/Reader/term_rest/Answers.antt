@@ -1,13 +1,12 @@
-use mathlib.Core.Path.{_≡_, refl, sym, ap, subst, _∙_}
+use mathlib.Core.Path.{ap}
 use lib.IntN.{pos, negℤ}
 use Rattle.std.proofs.shelf.Results.{err-from-errBy}
-use Rattle.std.specs.declared.result.Result.the-variants.{Ok}
 use Rattle.model.specs.declared.expression.Term.the-variants.{Number, Parameter as Held}
 use Rattle.grammar.specs.Grammar.{parameter-of}
 use Rattle.grammar.specs.Combinators.{expect, pure}
 use Rattle.grammar.specs.Parser.{term-rest}
 use Rattle.grammar.specs.Tests.{digits}
-use Rattle.reader.proofs.Chains.{parses-then, parses-stop, parses-end, parses-by}
+use Rattle.reader.proofs.Chains.{parses-stop, parses-end, parses-by}
 use Rattle.reader.proofs.reader.Reader.term_rest.Needs as need
 use Rattle.model.specs.Limits.{limit}
 

@@ -1,4 +1,4 @@
-use mathlib.Core.Path.{_∙_, ap, sym, subst}
+use mathlib.Core.Path.{_∙_, ap}
 use Rattle.std.proofs.shelf.Results.{err-from-errBy}
 use Rattle.grammar.specs.Axes.{put, no-values, motion-of}
 use Rattle.grammar.specs.Combinators.{expect}
