@@ -24,11 +24,9 @@ use Rattle.console.specs.RangeLines.{RangeIs, range, range-of}
 use Rattle.console.specs.Report.{max-input, is-range, Outcome, read-all, refused-at, or-zero, by-range, range-answer, Skipped, rest, stopped, after-range, skip, ending, by-line, program-outcome, by-skipped, report-of}
 use Rattle.console.specs.Law.{Good, Bad, malformed, unknown, disordered, Begun, Takes, none, one, Reports, too-long, bad-range, bad-line, left-open, whole, TheReport}
 use Rattle.console.proofs.RangeGrammar.{is-read, is-had}
+use Rattle.grammar.proofs.Mores.{true-false}
 use Rattle.program.proofs.Taken.{one-longer}
 use Rattle.console.proofs.LineFeeds.{are-lines, no-others}
-
-apart : {P : Type 0} {b : Bool} → b ≡ true → b ≡ false → P
-apart p q = absurd (let z : _≡_ {A = ℕ} 0 1 = cc in omega arith)
 
 -- ---- range lines
 known-test : (p : ℕ) → 1 ≤ p → p ≤ 6 → ltb p 1 || ltb 6 p ≡ false
@@ -52,8 +50,8 @@ range-says l None e = malformed (λ a is. let f = is-read l a is in absurd (let 
 range-says l (Some a) e = go (ltb (a .parameter) 1 || ltb 6 (a .parameter)) refl (ltZ (a .high) (a .low) || (ltZ (a .low) (negℤ (pos limit)) || ltZ (pos limit) (a .high))) refl
   where
     go : (s : Bool) → (ltb (a .parameter) 1 || ltb 6 (a .parameter)) ≡ s → (t : Bool) → (ltZ (a .high) (a .low) || (ltZ (a .low) (negℤ (pos limit)) || ltZ (pos limit) (a .high))) ≡ t → RangeSays l (cond s (Some 26) (cond t (Some 27) None))
-    go true f t g = unknown a (is-had l a e) (λ k. apart f (known-test (a .parameter) (k .0) (k .1)))
-    go false f true g = disordered a (is-had l a e) (test-known (a .parameter) f) (λ k. apart g (ordered-test (a .low) (a .high) (k .0) (k .1) (k .2)))
+    go true f t g = unknown a (is-had l a e) (λ k. true-false f (known-test (a .parameter) (k .0) (k .1)))
+    go false f true g = disordered a (is-had l a e) (test-known (a .parameter) f) (λ k. true-false g (ordered-test (a .low) (a .high) (k .0) (k .1) (k .2)))
     go false f false g = (a, is-had l a e, test-known (a .parameter) f, test-ordered (a .low) (a .high) g)
 
 -- both tests decide the answer

@@ -1,7 +1,7 @@
 -- The end of a line, and a line that may end or go on.
 use mathlib.Core.Path.{_≡_, refl, sym, ap, subst, _∙_}
 use mathlib.Core.Logic.{inl, inr}
-use mathlib.Core.Bool.{Bool, true, false, cond}
+use mathlib.Core.Bool.{Bool, true, false, cond, true≢false}
 use mathlib.Core.List.{List, [], _∷_}
 use Prim.Native.Nat.{ℕ}
 use native.Mathlib.Omega.{arith}
@@ -18,7 +18,7 @@ use Rattle.grammar.proofs.Reading.{pureL, or-moreL, Lines}
 use Rattle.grammar.proofs.Cuts.{never, refused-same, empty-cons}
 
 pub true-false : {P : Type 0} {v : Bool} → v ≡ true → v ≡ false → P
-true-false p q = absurd (let z : _≡_ {A = ℕ} 0 1 = cc in omega arith)
+true-false p q = absurd (true≢false (sym p ∙ q))
 
 clash-over : {A P : Type 0} {v : Tested A} {a : A} → v ≡ fits a → v ≡ over → P
 clash-over p q = absurd (let z : _≡_ {A = ℕ} 0 1 = cc in omega arith)

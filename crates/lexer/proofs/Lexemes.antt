@@ -1,6 +1,6 @@
 -- Each text has its tokens, and no others.
 use mathlib.Core.Path.{_≡_, refl, sym, ap, subst, _∙_}
-use mathlib.Core.Bool.{Bool, true, false, cond}
+use mathlib.Core.Bool.{Bool, true, false, cond, true≢false}
 use mathlib.Core.List.{List, [], _∷_, _++_}
 use Prim.Native.Nat.{ℕ, _+_, _-_, _≤_, _<_, zero, suc}
 use native.Mathlib.Omega.{arith}
@@ -20,25 +20,22 @@ same-refl Digit = refl
 same-refl Blank = refl
 same-refl Mark = refl
 
-apart : {P : Type 0} {b : Bool} → b ≡ true → b ≡ false → P
-apart p q = absurd (let z : _≡_ {A = ℕ} 0 1 = cc in omega arith)
-
 is-class : (j k : Class) → same j k ≡ true → j ≡ k
 is-class Letter Letter e = refl
-is-class Letter Digit e = apart e refl
-is-class Letter Blank e = apart e refl
-is-class Letter Mark e = apart e refl
-is-class Digit Letter e = apart e refl
+is-class Letter Digit e = absurd (true≢false (sym e))
+is-class Letter Blank e = absurd (true≢false (sym e))
+is-class Letter Mark e = absurd (true≢false (sym e))
+is-class Digit Letter e = absurd (true≢false (sym e))
 is-class Digit Digit e = refl
-is-class Digit Blank e = apart e refl
-is-class Digit Mark e = apart e refl
-is-class Blank Letter e = apart e refl
-is-class Blank Digit e = apart e refl
+is-class Digit Blank e = absurd (true≢false (sym e))
+is-class Digit Mark e = absurd (true≢false (sym e))
+is-class Blank Letter e = absurd (true≢false (sym e))
+is-class Blank Digit e = absurd (true≢false (sym e))
 is-class Blank Blank e = refl
-is-class Blank Mark e = apart e refl
-is-class Mark Letter e = apart e refl
-is-class Mark Digit e = apart e refl
-is-class Mark Blank e = apart e refl
+is-class Blank Mark e = absurd (true≢false (sym e))
+is-class Mark Letter e = absurd (true≢false (sym e))
+is-class Mark Digit e = absurd (true≢false (sym e))
+is-class Mark Blank e = absurd (true≢false (sym e))
 is-class Mark Mark e = refl
 
 differ : (j k : Class) → (j ≡ k → ⊥) → same j k ≡ false
@@ -62,7 +59,7 @@ run-stops k [] = tt
 run-stops k (b ∷ bs) =
     elim (same (class b) k) as (λ v. same (class b) k ≡ v → Stops k (drop (cond v (suc (run k bs)) 0) (b ∷ bs))) [
       | true ↦ λ e. run-stops k bs
-      | false ↦ λ e h. apart (ap (λ j. same j k) h ∙ same-refl k) e
+      | false ↦ λ e h. true≢false (sym (ap (λ j. same j k) h ∙ same-refl k) ∙ e)
     ] refl
 
 -- a run that stops is as long as it is
@@ -119,7 +116,7 @@ are-lexemes (suc n) p (b ∷ bs) h = go (same (class b) Blank) refl (are-lexemes
         let is : lexemes-from 0 p (b ∷ bs) ≡ record { place = p; bytes = take m (b ∷ bs) } ∷ lexemes-from 0 (p + m) (drop m (b ∷ bs)) = one p (b ∷ bs) (omega arith) w e in
         let here : lexemes-from 0 p (b ∷ bs) ≡ record { place = p; bytes = take m (b ∷ bs) } ∷ lexemes-from (m - 1) (p + 1) bs = ap (λ v. cond v (lexemes-from 0 (p + 1) bs) (record { place = p; bytes = take m (b ∷ bs) } ∷ lexemes-from (m - 1) (p + 1) bs)) e in
         let rest = shorter (p + m) (drop m (b ∷ bs)) (omega (arith, length-drop m (b ∷ bs))) in
-        subst (LexemesAre p (b ∷ bs)) (sym is ∙ here) (headed p (b ∷ bs) m _ w (first-token b bs (class b) refl (λ c. apart (ap (λ j. same j Blank) c) e)) rest)
+        subst (LexemesAre p (b ∷ bs)) (sym is ∙ here) (headed p (b ∷ bs) m _ w (first-token b bs (class b) refl (λ c. true≢false (sym (ap (λ j. same j Blank) c) ∙ e))) rest)
 
 pub has-lexemes : (s : List ℕ) → LexemesAre 0 s (lexemes s)
 has-lexemes s = are-lexemes (length s) 0 s (omega arith)
