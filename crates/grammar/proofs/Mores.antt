@@ -20,9 +20,6 @@ use Rattle.grammar.proofs.Cuts.{never, refused-same, empty-cons}
 pub true-false : {P : Type 0} {v : Bool} → v ≡ true → v ≡ false → P
 true-false p q = absurd (true≢false (sym p ∙ q))
 
-clash-over : {A P : Type 0} {v : Tested A} {a : A} → v ≡ fits a → v ≡ over → P
-clash-over p q = absurd (let z : _≡_ {A = ℕ} 0 1 = cc in omega arith)
-
 clash-wrong : {A P : Type 0} {v : Tested A} {a : A} → v ≡ fits a → v ≡ wrong → P
 clash-wrong p q = absurd (let z : _≡_ {A = ℕ} 0 1 = cc in omega arith)
 

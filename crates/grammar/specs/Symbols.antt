@@ -47,15 +47,15 @@ letter-else None t = t
 abbrev pub letters : List ℕ → Symbol
 letters s = letter-else (axis-of s) (relation-else (relation-of s) (keyword-else (keyword-of s)))
 
-abbrev pub numeral : List ℕ → Symbol
-numeral s = cond (leb (length s) 8) (Digits (value 10 s)) Long
+abbrev pub words : List ℕ → Symbol
+words s = cond (leb (length s) 8) (Digits (value 10 s)) Long
 
 abbrev pub mark : ℕ → Symbol
 mark b = cond (eqb b 35) (Fixed Hash) (cond (eqb b 91) (Fixed Open) (cond (eqb b 93) (Fixed Close) (cond (eqb b 43) (Fixed Plus) (cond (eqb b 45) (Fixed Minus) (cond (eqb b 42) (Fixed Star) (cond (eqb b 61) (Fixed Equals) Unknown))))))
 
 abbrev pub symbol-by : Class → List ℕ → Symbol
 symbol-by Alphabetic s = letters s
-symbol-by Digit s = numeral s
+symbol-by Digit s = words s
 symbol-by Mark s = mark (getD s 0 0)
 symbol-by Blank s = Unknown
 

@@ -118,15 +118,6 @@ parses-beyond l a i b s t e =
     }
 
 module _ {A : Type 0} (l : Line) (f : Symbol → Tested A) (q : A → Parser Line) (a : Lexer) (i : Item) (b : Lexer) (t : Takes a i b) where
-  pub parses-none : i .symbol ≡ None → Parses (or-more l f q) a (Ok l) b
-  parses-none e =
-      let n = subst (λ s. Next (ahead a) (length (a .text .now)) (i .place) s (ahead b)) e (t .next) in
-      record {
-        same = t .same;
-        past = ([], n .0 ∙ sym (n .1));
-        says = subst (λ ts. Agrees (or-more l f q ts) (length (a .text .now)) (ahead a) (Ok l) (ahead b)) (sym (ap symbols (n .0))) (refl, ap symbols (n .1));
-      }
-
   pub parses-again : (s : Symbol) → i .symbol ≡ Some s → names l s ≡ true → Parses (or-more l f q) a (Err (record { cause = Twice; place = i .place })) b
   parses-again s e h =
       let n = subst (λ s. Next (ahead a) (length (a .text .now)) (i .place) s (ahead b)) e (t .next) in

@@ -3,7 +3,7 @@ use mathlib.Core.Path.{_≡_, refl, sym, ap, subst, _∙_}
 use mathlib.Core.Bool.{true, false}
 use Prim.Native.Nat.{ℕ, _-_, _<_, zero, suc}
 use native.Mathlib.Omega.{arith}
-use Rattle.std.specs.declared.option.Option.the-variants.{Some, None}
+use Rattle.std.specs.declared.option.Option.the-variants.{Some}
 use Rattle.std.specs.declared.result.Result.{Result}
 use Rattle.std.specs.declared.result.Result.the-variants.{Ok, Err}
 use Rattle.lexer.specs.declared.lexer.Lexer.{Lexer}
@@ -23,7 +23,7 @@ use Rattle.grammar.specs.Combinators.{Parser, bad, bind, expect, or-more}
 use Rattle.grammar.specs.Tests.{axis, tried, outcome}
 use Rattle.grammar.specs.Parser.{value, more, more-words}
 use Rattle.reader.specs.Parses.{Parses, Takes}
-use Rattle.reader.proofs.Chains.{parses-then, parses-stop, parses-leaf, parses-none, parses-again, parses-more}
+use Rattle.reader.proofs.Chains.{parses-then, parses-stop, parses-leaf, parses-again, parses-more}
 use Rattle.grammar.proofs.Moves.{tally-le, tally-one}
 
 -- ---- how many axes are ahead
@@ -81,9 +81,6 @@ axis-not (Relation r) p f m e = refl
 axis-not Unknown p f m e = refl
 
 module _ (g : Motion) (m : AxisValues) (a : Lexer) (i : Item) (b : Lexer) (t : Takes a i b) where
-  pub words-none : i .symbol ≡ None → Parses (more-words g m) a (Ok (moved g m)) b
-  words-none e = subst (λ p. Parses p a (Ok (moved g m)) b) (sym (more-is (4 - count m) g m)) (parses-none (moved g m) axis (goes (4 - count m) g m) a i b t e)
-
   pub words-refused : (s : Symbol) (f : Refusal) → i .symbol ≡ Some s → Err f ≡ outcome (tried axis (Some s)) (i .place) → Parses (more-words g m) a (Err f) b
   words-refused s f e h =
       subst (λ p. Parses p a (Err f) b) (sym (more-is (4 - count m) g m))
