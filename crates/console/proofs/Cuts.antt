@@ -5,12 +5,11 @@ use mathlib.Core.List.{List, [], _∷_}
 use Prim.Native.Nat.{ℕ, _+_, _-_, _<_, _≤_, suc}
 use native.Mathlib.Omega.{arith}
 use native.Mathlib.Numerals.{add-one}
-use lib.ListN.{length, take, drop, getD, length-drop}
-use lib.Dec.{eqb, leb}
-use Rattle.std.proofs.shelf.Tests.{eq-eqb, ne-eqb, le-leb, lt-leb}
-use Rattle.std.proofs.shelf.Lists.{at-drop-more, at-drop-all, drop-all, take-rest}
-use Rattle.console.specs.RangeLines.{all-digits}
-use Rattle.console.specs.Lines.{until, before, lines-of}
+use lib.ListN.{length, take, drop, length-drop}
+use lib.Dec.{eqb}
+use Rattle.std.proofs.shelf.Lists.{drop-all, take-rest}
+use Rattle.words.specs.Cuts.{until}
+use Rattle.console.specs.Lines.{before, lines-of}
 
 -- the line feed is there
 pub cut-there : (bs : List ℕ) → until 10 bs < length bs → lines-of bs ≡ take (until 10 bs) bs ∷ lines-of (drop (until 10 bs + 1) bs)
@@ -33,41 +32,6 @@ cut-none b (a ∷ bs) h = go (eqb b 10) (cut-none a bs) h
     go : (t : Bool) → (length (a ∷ bs) ≤ until 10 (a ∷ bs) → lines-of (a ∷ bs) ≡ (a ∷ bs) ∷ []) → length (b ∷ a ∷ bs) ≤ cond t 0 (until 10 (a ∷ bs) + 1) → cond t ([] ∷ lines-of (a ∷ bs)) (before b (lines-of (a ∷ bs))) ≡ (b ∷ a ∷ bs) ∷ []
     go true more q = absurd (omega arith)
     go false more q = ap (before b) (more (omega arith))
-
--- the steps of a search for a byte
-module _ (stop : ℕ) (bs : List ℕ) (i : ℕ) (inv : until stop bs ≡ i + until stop (drop i bs)) where
-  step : i < length bs → until stop (drop i bs) ≡ cond (eqb (getD bs i 0) stop) 0 (until stop (drop (i + 1) bs) + 1)
-  step lt = at-drop-more (until stop) bs i 0 lt
-
-  pub until-here : i < length bs → getD bs i 0 ≡ stop → i ≡ until stop bs
-  until-here lt e = let t : eqb (getD bs i 0) stop ≡ true = eq-eqb _ _ e in let s = rw t at (step lt) in omega arith
-
-  pub until-on : i < length bs → (getD bs i 0 ≡ stop → ⊥) → until stop bs ≡ i + 1 + until stop (drop (i + 1) bs)
-  until-on lt e = let t : eqb (getD bs i 0) stop ≡ false = ne-eqb _ _ e in let s = rw t at (step lt) in omega arith
-
-  pub until-all : length bs ≤ i → i ≤ length bs → length bs ≡ until stop bs
-  until-all le ge = let s : until stop (drop i bs) ≡ 0 = at-drop-all (until stop) bs i le in omega arith
-
-module _ (bs : List ℕ) (i : ℕ) (inv : all-digits bs ≡ all-digits (drop i bs)) where
-  pub digits-on : i < length bs → 48 ≤ getD bs i 0 → getD bs i 0 ≤ 57 → all-digits bs ≡ all-digits (drop (i + 1) bs)
-  digits-on lt a b =
-      let s : leb 48 (getD bs i 0) ≡ true = le-leb _ _ a in
-      let t : leb (getD bs i 0) 57 ≡ true = le-leb _ _ b in
-      inv ∙ at-drop-more all-digits bs i 0 lt ∙ rw (s, t)
-
-  pub digits-low : i < length bs → getD bs i 0 < 48 → false ≡ all-digits bs
-  digits-low lt a =
-      let s : leb 48 (getD bs i 0) ≡ false = lt-leb _ _ a in
-      sym (inv ∙ at-drop-more all-digits bs i 0 lt ∙ rw s)
-
-  pub digits-high : i < length bs → 48 ≤ getD bs i 0 → 57 < getD bs i 0 → false ≡ all-digits bs
-  digits-high lt a b =
-      let s : leb 48 (getD bs i 0) ≡ true = le-leb _ _ a in
-      let t : leb (getD bs i 0) 57 ≡ false = lt-leb _ _ b in
-      sym (inv ∙ at-drop-more all-digits bs i 0 lt ∙ rw (s, t))
-
-  pub digits-all : length bs ≤ i → true ≡ all-digits bs
-  digits-all le = sym (inv ∙ at-drop-all all-digits bs i le)
 
 -- no byte, no line
 pub cut-empty : (bs : List ℕ) → length bs ≡ 0 → lines-of bs ≡ []

@@ -15,8 +15,9 @@ use Rattle.std.specs.Options.{Cases}
 use Rattle.std.specs.declared.option.Option.{Option}
 use Rattle.std.specs.declared.option.Option.the-variants.{Some, None}
 use Rattle.console.specs.declared.range_line.RangeLine.{RangeLine}
-use Rattle.console.specs.Lines.{until}
-use Rattle.console.specs.RangeLines.{is-digit, all-digits, natural-of, minus, number-of, with-both, pair-of, range-of}
+use Rattle.words.specs.Cuts.{until}
+use Rattle.words.specs.Numbers.{is-digit, all-digits, natural-of, minus, number-of}
+use Rattle.console.specs.RangeLines.{with-both, pair-of, range-of}
 use Rattle.console.specs.RangeLines.{NumberIs, plain, below, RangeIs, range}
 
 digit-from : (b : ℕ) → is-digit b ≡ true → (48 ≤ b) × (b ≤ 57)

@@ -7,27 +7,13 @@ use native.Mathlib.Omega.{arith}
 use lib.ListN.{length, take, drop, getD}
 use lib.Dec.{eqb, leb}
 use lib.IntN.{ℤ}
-use borrow.Author.Needs.{needs}
-use Rattle.std.proofs.shelf.Tests.{eq-eqb, and-parts, leb-true, le-leb}
+use Rattle.std.proofs.shelf.Tests.{eq-eqb, le-leb}
 use Rattle.std.proofs.shelf.Lists.{take-rest, drop-all}
-use Rattle.std.specs.Reads.{Digits}
 use Rattle.std.specs.declared.option.Option.{Option}
 use Rattle.std.specs.declared.option.Option.the-variants.{Some, None}
-use Rattle.console.specs.RangeLines.{is-digit, all-digits, natural-of, minus, number-of, with-both, pair-of, range-of}
-use Rattle.console.specs.Lines.{until}
-
-pub all-are-digits : (bs : List ℕ) → all-digits bs ≡ true → Digits 10 bs
-all-are-digits [] h = tt
-all-are-digits (b ∷ bs) h =
-    let p = and-parts (is-digit b) (all-digits bs) h in
-    let q = and-parts (leb 48 b) (leb b 57) (p .0) in
-    let lo = leb-true 48 b (q .0) in
-    let hi = leb-true b 57 (q .1) in
-    (search needs, all-are-digits bs (p .1))
-
-pub signed-text : (bs : List ℕ) → 1 ≤ length bs → getD bs 0 0 ≡ 45 → number-of bs ≡ minus (natural-of (take (length bs - 1) (drop 1 bs)))
-signed-text [] h e = absurd (omega arith)
-signed-text (b ∷ bs) h e = let t : eqb b 45 ≡ true = eq-eqb b 45 e in rw t (ap (λ ds. minus (natural-of ds)) (sym (take-rest (b ∷ bs) 1)))
+use Rattle.words.specs.Numbers.{number-of}
+use Rattle.console.specs.RangeLines.{with-both, pair-of, range-of}
+use Rattle.words.specs.Cuts.{until}
 
 no-second : (p : ℕ) (a : Option ℤ) → None ≡ with-both p a None
 no-second p None = refl

@@ -14,11 +14,6 @@ pub data LinesAre : List ℕ → List (List ℕ) → Type 0 where
   last : (b : ℕ) (bs : List ℕ) → NoFeed (b ∷ bs) → LinesAre (b ∷ bs) ((b ∷ bs) ∷ [])
   more : (l rest : List ℕ) (ls : List (List ℕ)) → NoFeed l → LinesAre rest ls → LinesAre (l ++ (10 ∷ rest)) (l ∷ ls)
 
--- how many bytes stand before the first stop
-abbrev pub until : ℕ → List ℕ → ℕ
-until stop [] = 0
-until stop (b ∷ bs) = cond (eqb b stop) 0 (until stop bs + 1)
-
 -- a byte in front of the first line
 abbrev pub before : ℕ → List (List ℕ) → List (List ℕ)
 before b [] = (b ∷ []) ∷ []

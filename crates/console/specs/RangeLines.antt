@@ -1,23 +1,17 @@
 -- Range lines: `?` and a digit, and two numbers of at most 8 digits, each after one blank. First the grammar, then the reading.
 use mathlib.Core.Path.{_≡_}
-use mathlib.Core.Bool.{Bool, true, cond, _&&_}
+use mathlib.Core.Bool.{true, cond, _&&_}
 use mathlib.Core.List.{List, [], _∷_, _++_}
 use Prim.Native.Nat.{ℕ, _+_, _-_, _≤_}
-use lib.Dec.{eqb, leb}
+use lib.Dec.{eqb}
 use lib.IntN.{ℤ, pos, negℤ}
 use lib.ListN.{length, take, drop}
 use Rattle.std.specs.declared.option.Option.{Option}
 use Rattle.std.specs.declared.option.Option.the-variants.{Some, None}
 use Rattle.std.specs.Reads.{value}
 use Rattle.console.specs.declared.range_line.RangeLine.{RangeLine}
-use Rattle.console.specs.Lines.{until}
-
-abbrev pub is-digit : ℕ → Bool
-is-digit b = leb 48 b && leb b 57
-
-abbrev pub all-digits : List ℕ → Bool
-all-digits [] = true
-all-digits (b ∷ bs) = is-digit b && all-digits bs
+use Rattle.words.specs.Numbers.{is-digit, all-digits, number-of}
+use Rattle.words.specs.Cuts.{until}
 
 -- ---- the grammar
 pub data NumberIs : List ℕ → ℤ → Type 0 where
@@ -28,19 +22,6 @@ pub data RangeIs : List ℕ → RangeLine → Type 0 where
   range : (d : ℕ) (xs ys : List ℕ) (lo hi : ℤ) → 48 ≤ d → d ≤ 57 → NumberIs xs lo → NumberIs ys hi → RangeIs (63 ∷ d ∷ 32 ∷ (xs ++ (32 ∷ ys))) (record { parameter = d - 48; low = lo; high = hi })
 
 -- ---- the reading
--- 1 to 8 digits
-abbrev pub natural-of : List ℕ → Option ℤ
-natural-of bs = cond (all-digits bs && (leb 1 (length bs) && leb (length bs) 8)) (Some (pos (value 10 bs))) None
-
-abbrev pub minus : Option ℤ → Option ℤ
-minus None = None
-minus (Some n) = Some (negℤ n)
-
--- with an optional sign
-abbrev pub number-of : List ℕ → Option ℤ
-number-of [] = None
-number-of (b ∷ bs) = cond (eqb b 45) (minus (natural-of bs)) (natural-of (b ∷ bs))
-
 abbrev pub with-both : ℕ → Option ℤ → Option ℤ → Option RangeLine
 with-both n None hi = None
 with-both n (Some lo) None = None

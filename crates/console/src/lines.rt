@@ -1,23 +1,11 @@
-// A text cut at a byte, and the lines of a text.
+// The lines of a text.
 ghost use mathlib.Core.Path.{_≡_};
 ghost use mathlib.Core.List.{[], _∷_};
-ghost use Prim.Native.Nat.{_<_, _≤_};
+ghost use Prim.Native.Nat.{_<_};
 ghost use lib.ListN.{length};
 ghost use Rattle.std.specs.Options.{Cases as BySome};
-ghost use Rattle.console.specs.Lines.{until, lines-of};
-
-// How many bytes stand before the first `stop`, or all.
-pub(crate) fn len_until(text: &[u8], stop: u8) -> usize
-    ensures is { λ r. ⌜ r ≡ until stop (now (text .entry)) ⌝ }
-    ensures within { λ r. ⌜ r ≤ length (now (text .entry)) ⌝ }
-{
-    for (i, b) in text.iter().enumerate() {
-        if *b == stop {
-            return i;
-        }
-    }
-    text.len()
-}
+ghost use Rattle.console.specs.Lines.{lines-of};
+use words::len_until;
 
 // The first line, and what follows its line feed.
 pub fn first_line(text: &[u8]) -> Option<(&[u8], &[u8])>

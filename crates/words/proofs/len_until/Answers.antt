@@ -1,6 +1,6 @@
 use native.Mathlib.Omega.{arith}
-use Rattle.console.proofs.Cuts.{until-here, until-on, until-all}
-use Rattle.console.proofs.lines.len_until.Needs as need
+use Rattle.words.proofs.Searches.{until-here, until-on, until-all}
+use Rattle.words.proofs.len_until.Needs as need
 
 pub returns-then-b-stop : need.returns-then-b-stop
 returns-then-b-stop c = record { is = until-here _ _ _ (c .loop-i .inv) (c .loop-i-test .taken) (c .if-b-stop .taken); within = omega arith }

@@ -7,9 +7,9 @@ use mir.Val.{SFits}
 use Rattle.std.proofs.shelf.Signed.{toZ-ofZ}
 use borrow.Author.Needs.{needs}
 use Rattle.std.specs.declared.option.Option.the-variants.{Some}
-use Rattle.console.specs.RangeLines.{minus}
-use Rattle.console.proofs.RangeLines.{signed-text}
-use Rattle.console.proofs.range_line.number.Needs as need
+use Rattle.words.specs.Numbers.{minus}
+use Rattle.words.proofs.NumberTexts.{signed-text}
+use Rattle.words.proofs.number.Needs as need
 
 pub returns-in-Some : need.returns-in-Some
 returns-in-Some c =

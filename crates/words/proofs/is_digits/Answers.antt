@@ -1,6 +1,6 @@
-use Rattle.console.proofs.Cuts.{digits-on, digits-low, digits-high, digits-all}
-use Rattle.console.proofs.range_line.is_digits.Needs as need
-use Rattle.console.proofs.range_line.is_digits.Needs.{then-b-lt48·by·then-b-lt48, then-b-lt48·by·else-b-lt48·then-b-gt57}
+use Rattle.words.proofs.NumberTexts.{digits-on, digits-low, digits-high, digits-all}
+use Rattle.words.proofs.is_digits.Needs as need
+use Rattle.words.proofs.is_digits.Needs.{then-b-lt48·by·then-b-lt48, then-b-lt48·by·else-b-lt48·then-b-gt57}
 
 pub returns-then-b-lt48 : need.returns-then-b-lt48
 returns-then-b-lt48 c =
