@@ -77,20 +77,12 @@ abbrev pub line-from : (Role → Bool) → ℕ → List Line → Option ℕ
 line-from p n [] = None
 line-from p n (x ∷ xs) = cond (p (role-of x)) (Some n) (line-from p (n + 1) xs)
 
-abbrev pub opens : ℕ → Role → Bool
-opens l (Opens k m c) = eqb m l
-opens l (Ends k m) = false
-opens l Neither = false
-
 abbrev pub ends : ℕ → Role → Bool
 ends l (Opens k m c) = false
 ends l (Ends k m) = eqb m l
 ends l Neither = false
 
--- the line that opens the block of the label, and the line that ends it
-abbrev pub first-line : List Line → ℕ → Option ℕ
-first-line xs l = line-from (opens l) 1 xs
-
+-- the line that ends the block of the label
 abbrev pub end-line : List Line → ℕ → Option ℕ
 end-line xs l = line-from (ends l) 1 xs
 

@@ -14,15 +14,18 @@ use Rattle.std.specs.declared.option.Option.{Option}
 use Rattle.std.specs.declared.option.Option.the-variants.{Some, None}
 use Rattle.std.specs.declared.result.Result.the-variants.{Ok, Err}
 use Rattle.std.specs.Options.{isSome}
+use Rattle.std.specs.Results.{isOk}
 use Rattle.model.specs.declared.expression.Condition.{Condition}
 use Rattle.model.specs.declared.line.Line.{Line}
 use Rattle.model.specs.declared.block.BlockKind.{BlockKind}
 use Rattle.model.specs.declared.block.Block.{Block}
+use Rattle.model.specs.declared.block.Role.{Role}
 use Rattle.model.specs.declared.block.Role.the-variants.{Opens, Ends, Neither}
 use Rattle.model.specs.Blocks.{role-of, open-blocks, labels, block-number}
 use Rattle.program.specs.declared.refusal.TableRefusal.the-variants.{Blocks}
 use Rattle.program.specs.declared.table.Program.{Program}
-use Rattle.program.specs.Refusals.{max-lines, max-blocks, role-answer}
+use Rattle.program.specs.Refusals.{max-lines, max-blocks, role-answer, push-answer, all-taken}
+use Rattle.program.proofs.Nested.{taken-more}
 use Rattle.program.specs.Agree.{no-block, label-of, Agrees, Last}
 use Rattle.program.specs.Held.{held, listed}
 use Rattle.program.proofs.Readings.{opened, with-end}
@@ -48,6 +51,13 @@ module _ (p : Program) where
   module _ (x : Line) (room : p .«line_count» < max-lines) where
     pub line-more : lines-and p x ≡ held p ++ (x ∷ [])
     line-more = take-more-set (p .lines) (p .«line_count») x (omega arith)
+
+    -- the line is taken, so all lines are
+    pub taken-line : (r : Role) → role-of x ≡ r → Ok tt ≡ role-answer (open-blocks (held p)) (labels (held p)) r → all-taken [] (lines-and p x) ≡ true
+    taken-line r e h =
+        let few : leb max-lines (length (held p)) ≡ false = let total = line-total in lt-leb _ _ (omega arith) in
+        let ok : push-answer (held p) x ≡ Ok tt = rw few (ap (role-answer (open-blocks (held p)) (labels (held p))) e ∙ sym h) in
+        rw line-more (taken-more [] (held p) x (p .taken) (ap isOk ok))
 
     pub keeps : role-of x ≡ Neither → ∥ Agrees (lines-and p x) (listed p) ∥₁
     keeps e = ∥∥₁-map (p .agrees) (λ a. rw line-more (one-kept (held p) (listed p) x e a))

@@ -2,6 +2,7 @@
 pub mod Sets
 pub mod Places
 pub mod Readings
+pub mod Nested
 pub mod Found
 pub mod Agreed
 pub mod Lookup

@@ -1,6 +1,6 @@
 -- What a look-up in a table answers is what the held lines say.
-use mathlib.Core.Path.{_≡_, refl, sym, ap, _∙_}
-use mathlib.Core.Bool.{Bool, Bool-set, true, false, not, _&&_}
+use mathlib.Core.Path.{_≡_, sym, ap, _∙_}
+use mathlib.Core.Bool.{Bool, Bool-set, false, not, _&&_}
 use mathlib.Core.List.{[], _∷_, map}
 use mathlib.Core.Logic.{∥∥₁-elim}
 use Prim.Native.Nat.{ℕ, _<_}
@@ -9,7 +9,6 @@ use native.Mathlib.Omega.{arith}
 use lib.ListN.{length, getD, take, length-map, List·getD-map}
 use lib.Seq.{getD-take, length-take-le}
 use lib.Dec.{eqb}
-use Rattle.std.proofs.shelf.Tests.{false≢true}
 use Rattle.std.specs.declared.option.Option.{Option}
 use Rattle.std.specs.declared.option.Option.the-variants.{Some, None}
 use Rattle.std.specs.Options.{isSome}
@@ -20,8 +19,8 @@ use Rattle.program.specs.Refusals.{same-kind, fits}
 use Rattle.program.specs.Agree.{no-block, label-of, unended, Last}
 use Rattle.program.specs.Held.{held, listed}
 use Rattle.program.proofs.Sets.{number-answer, block-answer}
-use Rattle.program.proofs.Places.{placed, unplaced, place-within}
-use Rattle.program.proofs.Readings.{no-block-from, end-is}
+use Rattle.program.proofs.Places.{placed, unplaced}
+use Rattle.program.proofs.Readings.{no-block-from}
 use Rattle.program.proofs.Found.{each-found, all-ended, last-on-top, last-taken}
 
 module _ (p : Program) where
@@ -72,16 +71,3 @@ module _ (p : Program) where
   pub closed-if : (r : Option ℕ) → Last (p .blocks) (p .«block_count») r → not (isSome r) ≡ closed (held p)
   closed-if None h = on-none is-empty h
   closed-if (Some i) h = on-top is-empty i h
-
-  -- with no block open, each block has its end
-  pub all-end : (r : Option ℕ) (l : ℕ) → Last (p .blocks) (p .«block_count») r → not (isSome r) ≡ true → isSome (block-number (held p) l) ≡ true → isSome (end-line (held p) l) ≡ true
-  all-end (Some j) l h e f = absurd (false≢true e)
-  all-end None l h e f = by-number (block-number (held p) l) refl f
-    where
-      by-number : (o : Option ℕ) → block-number (held p) l ≡ o → isSome o ≡ true → isSome (end-line (held p) l) ≡ true
-      by-number None q g = absurd (false≢true g)
-      by-number (Some i) q g =
-          let total = block-total in
-          let within = place-within 0 (labels (held p)) l i (sym q) in
-          let there = block-found l i (omega arith) (sym q) in
-          ap isSome (sym (end-is (held p) l (getD (p .blocks) i no-block) (sym there))) ∙ h i (omega arith)

@@ -7,6 +7,7 @@ use lib.Dec.{eqb, leb}
 use Rattle.std.specs.declared.result.Result.{Result}
 use Rattle.std.specs.declared.result.Result.the-variants.{Ok, Err}
 use Rattle.std.specs.Options.{isSome}
+use Rattle.std.specs.Results.{isOk}
 use Rattle.model.specs.declared.line.Line.{Line}
 use Rattle.model.specs.declared.block.BlockKind.{BlockKind}
 use Rattle.model.specs.declared.block.BlockKind.the-variants.{While, If}
@@ -54,3 +55,8 @@ table-number Lines = 21
 table-number End = 22
 table-number Label = 23
 table-number Blocks = 24
+
+-- each of the lines ys is taken, where xs are held before them
+abbrev pub all-taken : List Line → List Line → Bool
+all-taken xs [] = true
+all-taken xs (y ∷ ys) = isOk (push-answer xs y) && all-taken (xs ++ (y ∷ [])) ys

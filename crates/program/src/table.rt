@@ -2,7 +2,9 @@
 ghost use mathlib.Core.Path.{_≡_};
 ghost use Prim.Native.Nat.{_≤_};
 ghost use lib.ListN.{length, take};
-ghost use Rattle.program.specs.Refusals.{max-lines, max-blocks};
+ghost use mathlib.Core.Bool.{true};
+ghost use mathlib.Core.List.{[]};
+ghost use Rattle.program.specs.Refusals.{max-lines, max-blocks, all-taken};
 ghost use Rattle.program.specs.Agree.{Agrees};
 use model::block::Block;
 use model::line::Line;
@@ -22,5 +24,6 @@ pub struct Program {
     blocks: [Block; MAX_BLOCKS],
     block_count: usize,
     ghost fits: { («line_count» ≤ max-lines) × (length lines ≡ max-lines) × («block_count» ≤ max-blocks) × (length blocks ≡ max-blocks) },
+    ghost taken: { all-taken [] (take «line_count» lines) ≡ true },
     ghost agrees: { ∥ Agrees (take «line_count» lines) (take «block_count» blocks) ∥₁ },
 }

@@ -1,11 +1,12 @@
 // What a table holds, and the block of a label.
 ghost use mathlib.Core.Path.{_≡_};
 ghost use mathlib.Core.Bool.{true};
-ghost use Prim.Native.Nat.{ℕ, _<_};
+ghost use Prim.Native.Nat.{_<_};
 ghost use lib.ListN.{length};
 ghost use lib.Dec.{leb};
-ghost use Rattle.std.specs.Options.{isSome, Cases as BySome};
-ghost use Rattle.model.specs.Blocks.{labels, block-number, block-of, end-line, closed};
+ghost use Rattle.std.specs.Options.{Cases as BySome};
+ghost use Rattle.model.specs.Blocks.{labels, block-number, block-of, closed};
+ghost use Rattle.model.specs.Programs.{Closed};
 ghost use Rattle.program.specs.Agree.{Last};
 ghost use Rattle.program.specs.Held.{held};
 ghost use Rattle.program.specs.Refusals.{max-lines};
@@ -69,10 +70,10 @@ impl Program {
         None
     }
 
-    // Whether no block is open. Then each block has its end.
+    // Whether no block is open. Then the blocks are nested, and each has its end.
     pub fn is_closed(&self) -> bool
         ensures is { λ r. ⌜ r ≡ closed (held (now (self .entry))) ⌝ }
-        ensures ends { λ r. ⌜ (r ≡ true → (l : ℕ) → isSome (block-number (held (now (self .entry))) l) ≡ true → isSome (end-line (held (now (self .entry))) l) ≡ true) ⌝ }
+        ensures closed { λ r. ⌜ (r ≡ true → Closed (held (now (self .entry)))) ⌝ }
     {
         self.innermost().is_none()
     }
