@@ -1,0 +1,4 @@
+pub mod Orders
+pub mod GantryLaw
+pub mod BeamLaw
+pub mod Broken

@@ -1,0 +1,5 @@
+pub mod Refusals
+pub mod Travels
+pub mod Gantries
+pub mod Beams
+pub mod Eithers
