@@ -1,0 +1,4 @@
+pub mod Blanks
+pub mod Counts
+pub mod Choosing
+pub mod DryRuns
