@@ -11,4 +11,6 @@ pub fn table() -> u8
 #[cfg(test)]
 mod inputs;
 #[cfg(test)]
+mod runs;
+#[cfg(test)]
 mod texts;
