@@ -181,14 +181,14 @@ impl Run {
         Stepped::WentOn
     }
 
-    // Where a block line leads: on where its condition holds, else behind its block.
-    fn turned(&self, program: &Program, next: usize, label: u16, condition: Condition) -> usize
-        ensures { λ r. ⌜ r ≡ cond (holds (now (self .entry) .registers) condition) next (behind (length (held (now (program .entry)))) (block-of (held (now (program .entry))) label)) ⌝ }
+    // A block line leads on where its condition holds, else behind its block.
+    fn turn(&mut self, program: &Program, next: usize, label: u16, condition: Condition) -> Stepped
+        ensures { λ r. ⌜ gone (now (self .exit)) r ≡ went Stepped.WentOn (cond (holds (now (self .entry) .registers) condition) next (behind (length (held (now (program .entry)))) (block-of (held (now (program .entry))) label))) (now (self .entry) .registers) ⌝ }
     {
         if meets(&self.registers, condition) {
-            next
+            self.go(next)
         } else {
-            behind(program, label)
+            self.go(behind(program, label))
         }
     }
 
@@ -196,8 +196,7 @@ impl Run {
         ensures { λ r. ⌜ gone (now (self .exit)) r ≡ step-of (held (now (program .entry))) (now (self .entry)) ⌝ }
     {
         match (self.at, self.line_under(program)) {
-            (Some(n), Some(Line::Plain)) => self.go(n + 1),
-            (Some(n), Some(Line::EndIf { .. })) => self.go(n + 1),
+            (Some(n), Some(Line::Plain | Line::EndIf { .. })) => self.go(n + 1),
             (
                 Some(n),
                 Some(
@@ -224,12 +223,10 @@ impl Run {
                 }
             }
             (Some(n), Some(Line::While { label, condition })) => {
-                let to = self.turned(program, n + 1, label, condition);
-                self.go(to)
+                self.turn(program, n + 1, label, condition)
             }
             (Some(n), Some(Line::If { label, condition })) => {
-                let to = self.turned(program, n + 1, label, condition);
-                self.go(to)
+                self.turn(program, n + 1, label, condition)
             }
             (Some(_), Some(Line::EndWhile { label })) => self.go(first(program, label)),
             (_, _) => Stepped::Ended,
