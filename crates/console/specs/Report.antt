@@ -1,13 +1,11 @@
 -- What is reported on an input: range lines first, not counted, then the lines of the program, numbered from 1. The law of
 -- this report, as a relation, is in Law.
 use mathlib.Core.Path.{_≡_}
-use mathlib.Core.Bool.{Bool, false, cond, _||_}
+use mathlib.Core.Bool.{Bool, false, cond}
 use mathlib.Core.List.{List, [], _∷_, _++_}
 use Prim.Native.Nat.{ℕ, _+_, _≤_}
 use lib.Chars.{codes}
 use lib.Dec.{eqb, ltb}
-use lib.IntN.{pos, negℤ}
-use lib.Signed.{ltZ}
 use lib.ListN.{length}
 use denote.Ref.{RefT}
 use Rattle.std.specs.Written.{decimal}
@@ -15,13 +13,13 @@ use Rattle.std.specs.declared.option.Option.{Option}
 use Rattle.std.specs.declared.option.Option.the-variants.{Some, None}
 use Rattle.std.specs.declared.result.Result.{Result}
 use Rattle.std.specs.declared.result.Result.the-variants.{Ok, Err}
-use Rattle.model.specs.Limits.{limit}
 use Rattle.model.specs.Blocks.{labels, closed}
 use Rattle.model.specs.declared.line.Line.{Line}
 use Rattle.program.specs.Entry.{LineAnswer, taken, turned-down, line-number, line-place, line-answer, lines-after}
+use Rattle.session.specs.Answers.{allow-number, allow-answer}
 use Rattle.console.specs.declared.range_line.RangeLine.{RangeLine}
 use Rattle.console.specs.declared.refusal.Refusal.{Refusal}
-use Rattle.console.specs.declared.refusal.Refusal.the-variants.{Input, RangeText, Parameter, Range, Line as OfLine, Open}
+use Rattle.console.specs.declared.refusal.Refusal.the-variants.{Input, RangeText, Allow as OfAllow, Line as OfLine, Open}
 use Rattle.console.specs.declared.report.Report.{Report}
 use Rattle.console.specs.declared.report.Report.the-variants.{Read, Refused}
 use Rattle.console.specs.Lines.{lines-of}
@@ -39,8 +37,7 @@ pub data Outcome : Type 0 where
 abbrev pub refusal-number : Refusal → ℕ
 refusal-number Input = 46
 refusal-number RangeText = 13
-refusal-number Parameter = 26
-refusal-number Range = 27
+refusal-number (OfAllow e) = allow-number e
 refusal-number (OfLine e) = line-number e
 refusal-number Open = 31
 
@@ -51,8 +48,7 @@ or-zero None = 0
 abbrev pub refusal-place : Refusal → ℕ
 refusal-place Input = 0
 refusal-place RangeText = 0
-refusal-place Parameter = 0
-refusal-place Range = 0
+refusal-place (OfAllow e) = 0
 refusal-place (OfLine e) = or-zero (line-place e)
 refusal-place Open = 0
 
@@ -73,7 +69,7 @@ is-range (b ∷ bs) = eqb b 63
 
 -- the number for which a range line is refused, if it is
 abbrev pub allowed-answer : RangeLine → Option ℕ
-allowed-answer a = cond (ltb (a .parameter) 1 || ltb 6 (a .parameter)) (Some 26) (cond (ltZ (a .high) (a .low) || (ltZ (a .low) (negℤ (pos limit)) || ltZ (pos limit) (a .high))) (Some 27) None)
+allowed-answer a = allow-answer (a .parameter) (a .low) (a .high)
 
 abbrev pub by-range : Option RangeLine → Option ℕ
 by-range None = Some 13

@@ -13,8 +13,8 @@ use crate::range_line::RangeLine;
 use crate::range_line::read_range;
 use crate::refusal::Refusal;
 use crate::report::Report;
-use model::expression::LIMIT;
 use program::table::Program;
+use session::ranges::check_range;
 
 // The longest input, in bytes.
 pub const MAX_INPUT: usize = 32_768;
@@ -32,16 +32,13 @@ fn check_allowed(range: RangeLine) -> Result<(), Refusal>
     ensures says { λ r. ⌜ range-said r ≡ allowed-answer range ⌝ }
     ensures nowhere { λ r. ⌜ Cases r (λ _. Unit {0}) (λ e. refusal-place e ≡ 0) ⌝ }
 {
-    if range.parameter < 1 || range.parameter > 6 {
-        Err(Refusal::Parameter)
-    } else if range.low > range.high || range.low < -LIMIT || range.high > LIMIT {
-        Err(Refusal::Range)
-    } else {
-        Ok(())
+    match check_range(range.parameter as u32, range.low, range.high) {
+        Ok(()) => Ok(()),
+        Err(e) => Err(Refusal::Allow(e)),
     }
 }
 
-fn check_range(line: &[u8]) -> Result<(), Refusal>
+fn check_line(line: &[u8]) -> Result<(), Refusal>
     ensures says { λ r. ⌜ range-said r ≡ range-answer (now (line .entry)) ⌝ }
     ensures nowhere { λ r. ⌜ Cases r (λ _. Unit {0}) (λ e. refusal-place e ≡ 0) ⌝ }
 {
@@ -60,7 +57,7 @@ fn skip_ranges(text: &[u8]) -> Result<&[u8], Refusal>
         if !begins_range(line) {
             return Ok(rest);
         }
-        check_range(line)?;
+        check_line(line)?;
         rest = more;
     }
     Ok(rest)

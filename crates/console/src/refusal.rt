@@ -2,6 +2,7 @@
 ghost use mathlib.Core.Path.{_≡_};
 ghost use Rattle.console.specs.Report.{refusal-number, refusal-place};
 use program::refusal::LineRefusal;
+use session::refusal::AllowRefusal;
 
 #[derive(Clone, Copy)]
 pub enum Refusal {
@@ -9,10 +10,8 @@ pub enum Refusal {
     Input,
     // a line that begins as a range line, and is none
     RangeText,
-    // a range for a parameter other than 1 to 6
-    Parameter,
-    // a range whose ends are out of order or out of bounds
-    Range,
+    // a range that may not be allowed
+    Allow(AllowRefusal),
     // a line of the program
     Line(LineRefusal),
     // a block that is open where the program ends
@@ -26,8 +25,7 @@ impl Refusal {
         match self {
             Refusal::Input => 46,
             Refusal::RangeText => 13,
-            Refusal::Parameter => 26,
-            Refusal::Range => 27,
+            Refusal::Allow(e) => e.number(),
             Refusal::Line(e) => e.number(),
             Refusal::Open => 31,
         }

@@ -11,7 +11,7 @@ use Rattle.lexer.specs.declared.class.Class.the-variants.{Letter, Digit, Blank
 use Rattle.lexer.specs.declared.token.Token.{Token}
 use Rattle.lexer.specs.Classes.{class, run}
 
--- the length of the first token: a run of letters, a run of digits, or one byte
+-- how long the first token is: all letters or digits that touch, else one byte
 abbrev pub size-by : Class → List ℕ → ℕ
 size-by Letter s = run Letter s
 size-by Digit s = run Digit s

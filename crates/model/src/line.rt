@@ -18,7 +18,7 @@ pub enum Motion {
     Feed,
 }
 
-// One of seven kinds. A move has at most one value for each axis, and keeps no order of its words.
+// A move names each axis at most once, and keeps no order of its words.
 #[derive(Clone, Copy)]
 pub enum Line {
     Plain,

@@ -4,8 +4,8 @@ ghost use mathlib.Core.Bool.{false};
 ghost use Rattle.std.specs.Results.{isOk};
 ghost use Rattle.session.specs.Answers.{no-ranges, allow-said, allow-answer, ranges-after};
 use crate::ranges::Ranges;
+use crate::ranges::check_range;
 use crate::refusal::AllowRefusal;
-use model::expression::LIMIT;
 use model::range::Range;
 use model::register::PARAMETERS;
 
@@ -25,12 +25,7 @@ impl Ranges {
         ensures does { λ r. ⌜ now (self .exit) .each ≡ ranges-after (now (self .entry) .each) parameter lo hi ⌝ }
         ensures same { λ r. ⌜ (isOk r ≡ false → now (self .exit) ≡ now (self .entry)) ⌝ }
     {
-        if parameter < 1 || parameter > PARAMETERS as u32 {
-            return Err(AllowRefusal::Parameter);
-        }
-        if lo > hi || lo < -LIMIT || hi > LIMIT {
-            return Err(AllowRefusal::Range);
-        }
+        check_range(parameter, lo, hi)?;
         self.each[parameter as usize - 1] = Range { lo, hi };
         Ok(())
     }
