@@ -3,10 +3,10 @@ use desk::answer::Answer;
 use desk::answer::AnswerDisplay;
 use desk::desk::first_table;
 use desk::desk::serve;
+use either::either::EitherTravel;
 use session::session::Session;
 use std::test::*;
 use travel::beam::sides::BeamTravel;
-use travel::either::EitherTravel;
 use travel::gantry::sides::GantryTravel;
 
 fn check_last(rt: &LibcRuntime, script: &[&[u8]], last: &str) -> Result<(), Fail> {

@@ -18,11 +18,11 @@ use Rattle.session.specs.Answers.{allow-answer, dry-answer}
 use Rattle.session.specs.Memory.{Memory, memory, blank, after-line, after-allow}
 use Rattle.travel.specs.declared.beam.Beam.{Beam}
 use Rattle.travel.specs.declared.gantry.Gantry.{Gantry}
-use Rattle.travel.specs.declared.either.Either.{Either}
-use Rattle.travel.specs.declared.either.Either.the-variants.{First, Second}
+use Rattle.either.specs.declared.either.Either.{Either}
+use Rattle.either.specs.declared.either.Either.the-variants.{First, Second}
 use Rattle.travel.specs.declared.refusal.TravelRefusal.{TravelRefusal}
 use Rattle.travel.specs.Beams.{beam-sides, BeamMade}
-use Rattle.travel.specs.Eithers.{either}
+use Rattle.either.specs.Eithers.{either}
 use Rattle.travel.specs.Gantries.{gantry-sides, GantryMade}
 use Rattle.travel.specs.Refusals.{travel-number}
 use Rattle.session.specs.declared.session.Session.{Session}

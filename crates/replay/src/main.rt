@@ -3,11 +3,11 @@ use console::lines::first_line;
 use desk::answer::AnswerDisplay;
 use desk::desk::first_table;
 use desk::desk::serve;
+use either::either::EitherTravel;
 use session::session::Session;
 use std::error::AnyError;
 use std::io::Read;
 use travel::beam::sides::BeamTravel;
-use travel::either::EitherTravel;
 use travel::gantry::sides::GantryTravel;
 
 fn main(rt: LibcRuntime) -> Result<(), AnyError> {

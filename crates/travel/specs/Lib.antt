@@ -2,4 +2,3 @@ pub mod Refusals
 pub mod Travels
 pub mod Gantries
 pub mod Beams
-pub mod Eithers

@@ -1,6 +1,5 @@
 // Travels: where a machine may be, as a set of positions and as the sides that bound it.
 pub mod beam;
-pub mod either;
 pub mod gantry;
 pub mod refusal;
 pub mod side;

@@ -1,8 +1,8 @@
 // A travel that is one of two.
-ghost use Rattle.travel.specs.Eithers.{either};
-use crate::travel::Travel;
+ghost use Rattle.either.specs.Eithers.{either};
 use model::side::Position;
 use model::side::Side;
+use travel::travel::Travel;
 
 #[derive(Clone, Copy)]
 pub enum Either<A, B> {

@@ -1,0 +1,2 @@
+// One of two travels, as a travel.
+pub mod either;
