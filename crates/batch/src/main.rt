@@ -1,4 +1,7 @@
 // Reads many inputs from standard input, each up to a line `----`, and prints the report on each.
+
+#![tactic(auto)]
+
 ghost use Rattle.std.specs.Prelude.{◌<◌, length, IfSome};
 
 use console::input::report_on;

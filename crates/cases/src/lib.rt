@@ -1,4 +1,7 @@
 // Worked examples: a table that is proved from the rules, and tests.
+
+#![tactic(auto)]
+
 ghost use Rattle.cases.specs.Sets.{Sets};
 ghost use Rattle.cases.specs.Table.{Table};
 

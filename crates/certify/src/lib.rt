@@ -1,4 +1,7 @@
 // Certify: sweeps over a program until one is unchanged, and the verdict of that one.
+
+#![tactic(auto)]
+
 mod axes;
 mod begin;
 pub mod judge;

@@ -1,4 +1,7 @@
 // The commands of a session script, each read from its line.
+
+#![tactic(auto)]
+
 pub mod command;
 pub mod numbers;
 pub mod word;

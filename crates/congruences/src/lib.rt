@@ -1,4 +1,7 @@
 // Congruences: the numbers that leave one residue by one modulus, as sets of numbers.
+
+#![tactic(auto)]
+
 mod bounds;
 mod commons;
 mod conditions;

@@ -1,4 +1,7 @@
 // What the programs do between their input and their output, as functions over bytes.
+
+#![tactic(auto)]
+
 pub mod input;
 pub mod lines;
 pub mod range_line;

@@ -11,11 +11,11 @@ use Rattle.session.specs.Answers.{allow-answer, dry-answer}
 use Rattle.session.specs.Memory.{Memory, memory, blank, after_line, after_allow}
 use Rattle.travel.specs.declared.beam.Beam.{Beam}
 use Rattle.travel.specs.declared.gantry.Gantry.{Gantry}
-use Rattle.either.specs.declared.either.Either.{Either}
-use Rattle.either.specs.declared.either.Either.TheVariants.{First, Second}
+use Rattle.either_travel.specs.declared.either.Either.{Either}
+use Rattle.either_travel.specs.declared.either.Either.TheVariants.{First, Second}
 use Rattle.travel.specs.declared.refusal.TravelRefusal.{TravelRefusal}
 use Rattle.travel.specs.Beams.{beam_sides, BeamMade}
-use Rattle.either.specs.Eithers.{either}
+use Rattle.either_travel.specs.Eithers.{either}
 use Rattle.travel.specs.Gantries.{gantry_sides, GantryMade}
 use Rattle.travel.specs.Refusals.{travel_number}
 use Rattle.session.specs.declared.session.Session.{Session}

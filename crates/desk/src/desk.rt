@@ -7,7 +7,7 @@ ghost use Rattle.desk.specs.Serving.{Calls, OnGantry, OnBeam, Names, Changes, Se
 
 use crate::answer::{Answer, Refusal};
 use command::command::{Command, read_command};
-use either::either::Either;
+use either_travel::either::Either;
 use model::side::Position;
 use session::session::Session;
 use travel::beam::Beam;

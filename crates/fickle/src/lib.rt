@@ -1,2 +1,5 @@
 // A domain for tests: lawful, and otherwise as unhelpful as the laws allow.
+
+#![tactic(auto)]
+
 pub mod fickle;

@@ -1,2 +1,5 @@
 // Sets of numbers that are one interval.
+
+#![tactic(auto)]
+
 pub mod interval;

@@ -1,4 +1,7 @@
 // The tokens of a line, as parts of its own text, and what their bytes spell.
+
+#![tactic(auto)]
+
 pub mod class;
 pub mod digits;
 pub mod keyword;

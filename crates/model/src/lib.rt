@@ -1,4 +1,7 @@
 // The vocabulary of O-word programs: what a stored line is made of, where a run may go, and what it comes to.
+
+#![tactic(auto)]
+
 pub mod block;
 pub mod ending;
 pub mod expression;

@@ -1,4 +1,7 @@
 // Domains that hold a set of numbers for each register, whatever kind of set that is.
+
+#![tactic(auto)]
+
 pub mod congruences;
 pub mod intervals;
 pub mod laws;

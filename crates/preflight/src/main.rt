@@ -1,4 +1,7 @@
 // Reads standard input, and prints the report on it.
+
+#![tactic(auto)]
+
 use console::input::report_on;
 use std::io;
 use std::io::Read;

@@ -1,3 +1,6 @@
 // A program: its lines, the table of their blocks, and what the next line is refused for.
+
+#![tactic(auto)]
+
 pub mod refusal;
 pub mod table;

@@ -1,4 +1,7 @@
 // The reader: from the text of a line to the stored line, or to why and where it is refused.
+
+#![tactic(auto)]
+
 ghost use Rattle.std.specs.Prelude.{◌≡◌, ◌≤◌, length};
 ghost use Rattle.grammar.specs.Answer.{said, answer, clear, permitted};
 ghost use Rattle.grammar.specs.Law.{TheAnswer};

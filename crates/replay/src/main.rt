@@ -1,4 +1,7 @@
 // Reads a script of session commands from standard input, and prints one answer a line.
+
+#![tactic(auto)]
+
 use console::lines::first_line;
 use desk::desk::{first_table, serve};
 use session::session::Session;

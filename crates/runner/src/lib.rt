@@ -1,4 +1,7 @@
 // Plain runs: the value of an expression, one step, and dry runs.
+
+#![tactic(auto)]
+
 pub mod dry;
 pub mod run;
 pub mod value;

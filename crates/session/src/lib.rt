@@ -1,4 +1,7 @@
 // The session: a travel, a program and the allowed ranges, and the calls that a controller makes.
+
+#![tactic(auto)]
+
 pub mod ranges;
 pub mod refusal;
 pub mod session;

@@ -1,4 +1,7 @@
 // What is proved of sweeps, for every lawful domain.
+
+#![tactic(auto)]
+
 ghost use Rattle.std.specs.Prelude.{◌≡◌, true};
 ghost use Rattle.sweep.specs.Sound.{Sound, NeverStops, Covers, ComesFrom, KeepsLoops};
 ghost use Rattle.sweep.specs.Ends.{Ends, OneAnswer};

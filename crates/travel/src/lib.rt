@@ -1,4 +1,7 @@
 // Travels: where a machine may be, as a set of positions and as the sides that bound it.
+
+#![tactic(auto)]
+
 pub mod beam;
 pub mod gantry;
 pub mod refusal;

@@ -1,4 +1,7 @@
 // Texts cut at a byte, and numbers as they are written: an optional `-` and 1 to 8 digits.
+
+#![tactic(auto)]
+
 ghost use Rattle.std.specs.Prelude.{◌≡◌, ◌≤◌, length, pos, neg_ℤ, ◌≤ℤ◌, IfSome};
 ghost use Rattle.words.specs.Cuts.{until};
 ghost use Rattle.words.specs.Numbers.{all_digits, natural_of, number_of};

@@ -1,6 +1,6 @@
 // A travel that is one of two.
-ghost use Rattle.either.specs.Eithers.{either};
-ghost use Rattle.either.specs.declared.either.Either.TheVariants.{First, Second};
+ghost use Rattle.either_travel.specs.Eithers.{either};
+ghost use Rattle.either_travel.specs.declared.either.Either.TheVariants.{First, Second};
 
 use model::side::{Position, Side};
 use travel::travel::Travel;

@@ -1,2 +1,5 @@
 // One of two travels, as a travel.
+
+#![tactic(auto)]
+
 pub mod either;
