@@ -5,14 +5,14 @@ use Rattle.std.proofs.lemmas.List.{take_all}
 use Rattle.lexer.proofs.Numbers.{small, more, below}
 use Rattle.lexer.proofs.digits.number.Goals as goal
 
-pub overflow-mul-n : goal.overflow-mul-n
-overflow-mul-n c = omega (arith, c.loop-b.invariant, small c.args.s.now c.loop-b.b-index 7 c.requires.0 (omega arith) (omega arith))
+pub overflow_mul-n : goal.overflow_mul-n
+overflow_mul-n c = omega (arith, c.loop-b.invariant, small c.args.s.now c.loop-b.b-index 7 c.requires.0 (omega arith) (omega arith))
 
-pub overflow-sub-n : goal.overflow-sub-n
-overflow-sub-n c = (digit_at c.args.s.now c.loop-b.b-index c.requires.0 (omega arith)).0
+pub overflow_sub-n : goal.overflow_sub-n
+overflow_sub-n c = (digit_at c.args.s.now c.loop-b.b-index c.requires.0 (omega arith)).0
 
-pub overflow-add-n : goal.overflow-add-n
-overflow-add-n c =
+pub overflow_add-n : goal.overflow_add-n
+overflow_add-n c =
     let d = digit_at c.args.s.now c.loop-b.b-index c.requires.0 (omega arith) in
     omega (arith, c.loop-b.invariant, small c.args.s.now c.loop-b.b-index 7 c.requires.0 (omega arith) (omega arith))
 

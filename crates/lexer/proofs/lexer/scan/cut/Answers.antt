@@ -47,4 +47,4 @@ returns-in-61 c =
 pub returns-in-len1-up : goal.returns-in-len1-up
 returns-in-len1-up c =
     let some : 0 < length c.args.s.now = search rules in
-    cut_at c.args.s c.first-len-n.result _ _ some c.first-len-n.ensures.is c.first-len-n.ensures.within refl refl refl refl
+    cut_at c.args.s c.first_len-n.result _ _ some c.first_len-n.ensures.is c.first_len-n.ensures.within refl refl refl refl
