@@ -17,9 +17,9 @@ loop-b-preserved c =
     let s = i.6 in (
       (λ g p. i.0 g (gcd_step c.loop-b.a c.loop-b.b g p)),
       i.2,
-      turned c.args.m c.args.n c.loop-b.a c.loop-b.b c.loop-b.p c.loop-b.q c.less-product-more.result i.1 i.2 c.less-product-more.ensures.same,
+      turned c.args.m c.args.n c.loop-b.a c.loop-b.b c.loop-b.p c.loop-b.q c.less_product-more.result i.1 i.2 c.less_product-more.ensures.same,
       i.4,
-      c.less-product-more.ensures.below,
+      c.less_product-more.ensures.below,
       i.6,
       omega arith,
     )
