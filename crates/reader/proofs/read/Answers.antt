@@ -9,18 +9,18 @@ use Rattle.reader.proofs.read.Goals as goal
 lawful : (s : List ℕ) (a : Answer) → a ≡ answer s → TheAnswer s a
 lawful s a e = subst (TheAnswer s) (sym e) (the_answer s)
 
-pub returns-then-text-gt-MAX-TEXT : goal.returns-then-text-gt-MAX-TEXT
-returns-then-text-gt-MAX-TEXT c =
+pub returns-then-text-gt-MAX_TEXT : goal.returns-then-text-gt-MAX_TEXT
+returns-then-text-gt-MAX_TEXT c =
     let e = sym (long_answer c.args.text.now (omega arith)) in
     record { law = lawful c.args.text.now _ e; is = e }
 
 pub returns-then-clear-text : goal.returns-then-clear-text
 returns-then-clear-text c =
-    let e = sym (byte_answer c.args.text.now c.clear-len-clear.result (omega arith) (sym c.clear-len-clear.ensures.is) (omega arith)) in
+    let e = sym (byte_answer c.args.text.now c.clear_len-clear.result (omega arith) (sym c.clear_len-clear.ensures.is) (omega arith)) in
     record { law = lawful c.args.text.now _ e; is = e }
 
 pub returns : goal.returns
 returns c =
-    let all : clear c.args.text.now ≡ length c.args.text.now = omega (arith, c.clear-len-clear.ensures.is, c.clear-len-clear.ensures.within) in
+    let all : clear c.args.text.now ≡ length c.args.text.now = omega (arith, c.clear_len-clear.ensures.is, c.clear_len-clear.ensures.within) in
     let e = parses_reading _ _ _ c.args.text c.new-reader.ensures.at c.new-reader.ensures.text c.line.ensures ∙ sym (passed c.args.text.now (omega arith) all) in
     record { law = lawful c.args.text.now _ e; is = e }

@@ -14,9 +14,9 @@ returns c =
     let h : SFits w64 (c.args.y.residue -ℤ c.args.x.residue) = omega (arith, ints) in
     let i : SFits w64 c.remainder.result = search rules in
     let m = simp to_z-of_z at c.remainder.ensures.value in
-    let u = simp to_z-of_z at c.unsigned-abs.ensures.value in
+    let u = simp to_z-of_z at c.unsigned_abs.ensures.value in
     let v = u ∙ ap nat_abs m in
     record {
-      below = gap_below (c.args.y.residue -ℤ c.args.x.residue) c.args.y.modulus c.unsigned-abs.result c.requires v;
-      same = gap_same (c.args.y.residue -ℤ c.args.x.residue) c.args.y.modulus c.unsigned-abs.result c.requires v;
+      below = gap_below (c.args.y.residue -ℤ c.args.x.residue) c.args.y.modulus c.unsigned_abs.result c.requires v;
+      same = gap_same (c.args.y.residue -ℤ c.args.x.residue) c.args.y.modulus c.unsigned_abs.result c.requires v;
     }

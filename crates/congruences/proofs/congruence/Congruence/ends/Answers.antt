@@ -16,8 +16,8 @@ within c =
     let s = ends_within c.args.self c.args.lo c.args.hi c.first-first.result c.last.result a b p q in
     (p, q, s.0, s.1)
 
-pub overflow-cast-result-then-first-hi : goal.overflow-cast-result-then-first-hi
-overflow-cast-result-then-first-hi c =
+pub overflow_cast-result-then-first-hi : goal.overflow_cast-result-then-first-hi
+overflow_cast-result-then-first-hi c =
     let w = within c in
     let p = w.0 in let q = w.2 in let r = w.3 in
     let g = c.ranges.lo in let h = c.ranges.hi in

@@ -7,24 +7,24 @@ use Rattle.reader.proofs.Chains.{parses_same}
 use Rattle.reader.proofs.Words.{words_refused, words_twice, words_stop, words_then, fewer}
 use Rattle.reader.proofs.reader.Reader.+more.Goals as goal
 
-pub returns-in-err-a : goal.returns-in-err-a
-returns-in-err-a t c =
-    let p = err_from_is_err_and c.from-residual.result c.from-residual.ensures.1 in
-    rw (p.1, p.2) (words_refused c.args.motion c.args.values _ c.next-item.result _ c.next-item.ensures _ _ c.in-Some.is (c.in-err-a.ensures ∙ ap (λ x. outcome x c.next-item.result.place) c.axis.ensures))
+pub returns-in_err-a : goal.returns-in_err-a
+returns-in_err-a t c =
+    let p = err_from_is_err_and c.from_residual.result c.from_residual.ensures.1 in
+    rw (p.1, p.2) (words_refused c.args.motion c.args.values _ c.next-item.result _ c.next-item.ensures _ _ c.in-Some.is (c.in_err-a.ensures ∙ ap (λ x. outcome x c.next-item.result.place) c.axis.ensures))
 
 pub returns-then-has : goal.returns-then-has
 returns-then-has t c =
-    words_twice c.args.motion c.args.values _ c.next-item.result _ c.next-item.ensures _ c.in-ok-a.a c.in-Some.is (c.in-ok-a.ensures ∙ ap (λ x. outcome x c.next-item.result.place) c.axis.ensures) (sym c.has.ensures ∙ c.if-has.true)
+    words_twice c.args.motion c.args.values _ c.next-item.result _ c.next-item.ensures _ c.in_ok-a.a c.in-Some.is (c.in_ok-a.ensures ∙ ap (λ x. outcome x c.next-item.result.place) c.axis.ensures) (sym c.has.ensures ∙ c.if-has.true)
 
-pub returns-in-err-v : goal.returns-in-err-v
-returns-in-err-v t c =
-    let p = err_from_is_err_and c.from-residual-in-err-v.result c.from-residual-in-err-v.ensures.1 in
-    rw (p.1, p.2) (words_stop c.args.motion c.args.values _ c.next-item.result _ c.next-item.ensures _ c.in-ok-a.a _ _ c.in-Some.is (c.in-ok-a.ensures ∙ ap (λ x. outcome x c.next-item.result.place) c.axis.ensures) (sym c.has.ensures ∙ c.if-has.false) c.in-err-v.ensures)
+pub returns-in_err-v : goal.returns-in_err-v
+returns-in_err-v t c =
+    let p = err_from_is_err_and c.from_residual-in_err-v.result c.from_residual-in_err-v.ensures.1 in
+    rw (p.1, p.2) (words_stop c.args.motion c.args.values _ c.next-item.result _ c.next-item.ensures _ c.in_ok-a.a _ _ c.in-Some.is (c.in_ok-a.ensures ∙ ap (λ x. outcome x c.next-item.result.place) c.axis.ensures) (sym c.has.ensures ∙ c.if-has.false) c.in_err-v.ensures)
 
 pub more-requires : goal.more-requires
-more-requires t c = omega (arith, c.decreases, ap count c.put.ensures, fewer c.args.values c.in-ok-a.a c.in-ok-v.v (sym c.has.ensures ∙ c.if-has.false))
+more-requires t c = omega (arith, c.decreases, ap count c.put.ensures, fewer c.args.values c.in_ok-a.a c.in_ok-v.v (sym c.has.ensures ∙ c.if-has.false))
 
 pub returns : goal.returns
 returns t c =
-    words_then c.args.motion c.args.values _ c.next-item.result _ c.next-item.ensures _ c.in-ok-a.a c.in-ok-v.v _ _ _ c.in-Some.is (c.in-ok-a.ensures ∙ ap (λ x. outcome x c.next-item.result.place) c.axis.ensures) (sym c.has.ensures ∙ c.if-has.false) c.in-ok-v.ensures
+    words_then c.args.motion c.args.values _ c.next-item.result _ c.next-item.ensures _ c.in_ok-a.a c.in_ok-v.v _ _ _ c.in-Some.is (c.in_ok-a.ensures ∙ ap (λ x. outcome x c.next-item.result.place) c.axis.ensures) (sym c.has.ensures ∙ c.if-has.false) c.in_ok-v.ensures
     (parses_same (more_words c.args.motion) _ _ _ _ _ c.put.ensures c.more.ensures)

@@ -7,7 +7,7 @@ use Rattle.reader.proofs.reader.Reader.block_rest.Goals as goal
 
 pub returns-in-err-whole : goal.returns-in-err-whole
 returns-in-err-whole c =
-    let p = err_from_is_err_and c.from-residual.result c.from-residual.ensures.1 in
+    let p = err_from_is_err_and c.from_residual.result c.from_residual.ensures.1 in
     rw (p.1, p.2) (parses_by (block_rest c.args.label) _ _ _ _ _ c.in-While.is (parses_stop condition (λ x. ends (WhileLine c.args.label x)) _ _ _ c.in-err-whole.ensures))
 
 pub returns-in-ok-whole : goal.returns-in-ok-whole

@@ -7,35 +7,35 @@ use Rattle.reader.proofs.Chains.{parses_then, parses_stop, parses_pure}
 use Rattle.reader.proofs.reader.Reader.bracket.Goals as goal
 use Rattle.grammar.specs.Grammar.{applied}
 
-pub returns-in-err-a : goal.returns-in-err-a
-returns-in-err-a c =
-    let p = err_from_is_err_and c.from-residual.result c.from-residual.ensures.1 in
-    rw (p.1, p.2) (parses_stop term after_first _ _ _ c.in-err-a.ensures)
+pub returns-in_err-a : goal.returns-in_err-a
+returns-in_err-a c =
+    let p = err_from_is_err_and c.from_residual.result c.from_residual.ensures.1 in
+    rw (p.1, p.2) (parses_stop term after_first _ _ _ c.in_err-a.ensures)
 
-pub returns-in-err-o : goal.returns-in-err-o
-returns-in-err-o c =
-    let p = err_from_is_err_and c.from-residual-in-err-o.result c.from-residual-in-err-o.ensures.1 in
-    rw (p.1, p.2) (parses_then term after_first _ _ _ _ _ c.in-ok-a.ensures
-    (parses_stop (expect operator) (after_op c.in-ok-a.a) _ _ _ c.in-err-o.ensures))
+pub returns-in_err-o : goal.returns-in_err-o
+returns-in_err-o c =
+    let p = err_from_is_err_and c.from_residual-in_err-o.result c.from_residual-in_err-o.ensures.1 in
+    rw (p.1, p.2) (parses_then term after_first _ _ _ _ _ c.in_ok-a.ensures
+    (parses_stop (expect operator) (after_op c.in_ok-a.a) _ _ _ c.in_err-o.ensures))
 
-pub returns-in-err-b : goal.returns-in-err-b
-returns-in-err-b c =
-    let p = err_from_is_err_and c.from-residual-in-err-b.result c.from-residual-in-err-b.ensures.1 in
-    rw (p.1, p.2) (parses_then term after_first _ _ _ _ _ c.in-ok-a.ensures
-    (parses_then (expect operator) (after_op c.in-ok-a.a) _ _ _ _ _ c.in-ok-o.ensures
-    (parses_stop term (after_second c.in-ok-a.a c.in-ok-o.o) _ _ _ c.in-err-b.ensures)))
+pub returns-in_err-b : goal.returns-in_err-b
+returns-in_err-b c =
+    let p = err_from_is_err_and c.from_residual-in_err-b.result c.from_residual-in_err-b.ensures.1 in
+    rw (p.1, p.2) (parses_then term after_first _ _ _ _ _ c.in_ok-a.ensures
+    (parses_then (expect operator) (after_op c.in_ok-a.a) _ _ _ _ _ c.in_ok-o.ensures
+    (parses_stop term (after_second c.in_ok-a.a c.in_ok-o.o) _ _ _ c.in_err-b.ensures)))
 
-pub returns-in-err-keyword : goal.returns-in-err-keyword
-returns-in-err-keyword c =
-    let p = err_from_is_err_and c.from-residual-in-err-keyword.result c.from-residual-in-err-keyword.ensures.1 in
-    rw (p.1, p.2) (parses_then term after_first _ _ _ _ _ c.in-ok-a.ensures
-    (parses_then (expect operator) (after_op c.in-ok-a.a) _ _ _ _ _ c.in-ok-o.ensures
-    (parses_then term (after_second c.in-ok-a.a c.in-ok-o.o) _ _ _ _ _ c.in-ok-b.ensures
-    (parses_stop (expect (only Close)) (λ _. pure (applied c.in-ok-o.o c.in-ok-a.a c.in-ok-b.b)) _ _ _ c.in-err-keyword.ensures))))
+pub returns-in_err-keyword : goal.returns-in_err-keyword
+returns-in_err-keyword c =
+    let p = err_from_is_err_and c.from_residual-in_err-keyword.result c.from_residual-in_err-keyword.ensures.1 in
+    rw (p.1, p.2) (parses_then term after_first _ _ _ _ _ c.in_ok-a.ensures
+    (parses_then (expect operator) (after_op c.in_ok-a.a) _ _ _ _ _ c.in_ok-o.ensures
+    (parses_then term (after_second c.in_ok-a.a c.in_ok-o.o) _ _ _ _ _ c.in_ok-b.ensures
+    (parses_stop (expect (only Close)) (λ _. pure (applied c.in_ok-o.o c.in_ok-a.a c.in_ok-b.b)) _ _ _ c.in_err-keyword.ensures))))
 
 pub returns : goal.returns
-returns c = parses_then term after_first _ _ _ _ _ c.in-ok-a.ensures
-    (parses_then (expect operator) (after_op c.in-ok-a.a) _ _ _ _ _ c.in-ok-o.ensures
-    (parses_then term (after_second c.in-ok-a.a c.in-ok-o.o) _ _ _ _ _ c.in-ok-b.ensures
-    (parses_then (expect (only Close)) (λ _. pure (applied c.in-ok-o.o c.in-ok-a.a c.in-ok-b.b)) _ _ _ _ _ c.in-ok-keyword.ensures
+returns c = parses_then term after_first _ _ _ _ _ c.in_ok-a.ensures
+    (parses_then (expect operator) (after_op c.in_ok-a.a) _ _ _ _ _ c.in_ok-o.ensures
+    (parses_then term (after_second c.in_ok-a.a c.in_ok-o.o) _ _ _ _ _ c.in_ok-b.ensures
+    (parses_then (expect (only Close)) (λ _. pure (applied c.in_ok-o.o c.in_ok-a.a c.in_ok-b.b)) _ _ _ _ _ c.in_ok-keyword.ensures
     (parses_pure _ _))))

@@ -6,11 +6,11 @@ use Rattle.grammar.specs.Parser.{comparison}
 use Rattle.reader.proofs.Chains.{parses_then, parses_stop}
 use Rattle.reader.proofs.reader.Reader.condition.Goals as goal
 
-pub returns-in-err-keyword : goal.returns-in-err-keyword
-returns-in-err-keyword c =
-    let p = err_from_is_err_and c.from-residual.result c.from-residual.ensures.1 in
-    rw (p.1, p.2) (parses_stop (expect (only Open)) (λ _. comparison) _ _ _ c.in-err-keyword.ensures)
+pub returns-in_err-keyword : goal.returns-in_err-keyword
+returns-in_err-keyword c =
+    let p = err_from_is_err_and c.from_residual.result c.from_residual.ensures.1 in
+    rw (p.1, p.2) (parses_stop (expect (only Open)) (λ _. comparison) _ _ _ c.in_err-keyword.ensures)
 
 pub returns : goal.returns
-returns c = parses_then (expect (only Open)) (λ _. comparison) _ _ _ _ _ c.in-ok-keyword.ensures
+returns c = parses_then (expect (only Open)) (λ _. comparison) _ _ _ _ _ c.in_ok-keyword.ensures
     c.comparison.ensures

@@ -4,8 +4,8 @@ use Rattle.lexer.specs.Lexemes.{lexemes_from}
 use Rattle.lexer.proofs.Bytes.{token_some, token_digits}
 use Rattle.reader.proofs.reader.Reader.next.Goals as goal
 
-pub symbol-of-requires : goal.symbol-of-requires
-symbol-of-requires c =
+pub symbol_of-requires : goal.symbol_of-requires
+symbol_of-requires c =
     let f = c.in-Some.ensures.token in
     (token_some c.args.self.now.lexer.text c.args.self.now.lexer.at _ c.in-Some.t f, token_digits c.args.self.now.lexer.text c.args.self.now.lexer.at _ c.in-Some.t f)
 

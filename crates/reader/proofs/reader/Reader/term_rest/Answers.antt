@@ -11,7 +11,7 @@ use Rattle.model.specs.Limits.{limit}
 
 pub returns-in-err-n : goal.returns-in-err-n
 returns-in-err-n c =
-    let p = err_from_is_err_and c.from-residual.result c.from-residual.ensures.1 in
+    let p = err_from_is_err_and c.from_residual.result c.from_residual.ensures.1 in
     rw (p.1, p.2) (parses_by term_rest _ _ _ _ _ c.in-Plus.is (parses_stop (expect (digits 0 limit)) (λ n. pure (Number (pos n))) _ _ _ c.in-err-n.ensures.parses))
 
 pub returns-in-err-m : goal.returns-in-err-m

@@ -7,7 +7,7 @@ use Rattle.grammar.specs.Grammar.{bare}
 
 pub returns-in-err-t : goal.returns-in-err-t
 returns-in-err-t c =
-    let p = err_from_is_err_and c.from-residual.result c.from-residual.ensures.1 in
+    let p = err_from_is_err_and c.from_residual.result c.from_residual.ensures.1 in
     rw (p.1, p.2) (parses_by value_rest _ _ _ _ _ c.in-Begins.is (parses_stop (term_rest c.in-Begins.first) (λ t. pure (bare t)) _ _ _ c.in-err-t.ensures))
 
 pub returns-in-ok-t : goal.returns-in-ok-t

@@ -5,24 +5,24 @@ use Rattle.std.proofs.lemmas.Int.{to_z-of_z}
 use Rattle.travel.proofs.Orders.{gap_wide}
 use Rattle.travel.proofs.beam.Beam.new.Goals as goal
 
-pub returns-in-err-base : goal.returns-in-err-base
-returns-in-err-base c =
-    let p = err_from_is_err_and c.from-residual.result c.from-residual.ensures.1 in
-    rw (p.1, p.2, c.in-err-base.ensures.1) c.in-err-base.ensures.0
+pub returns-in_err-base : goal.returns-in_err-base
+returns-in_err-base c =
+    let p = err_from_is_err_and c.from_residual.result c.from_residual.ensures.1 in
+    rw (p.1, p.2, c.in_err-base.ensures.1) c.in_err-base.ensures.0
 
-pub invariant-of-result : goal.invariant-of-result
-invariant-of-result c =
+pub invariant_of-result : goal.invariant_of-result
+invariant_of-result c =
     let f : SFits w32 c.args.gap = search rules in
-    let w = gap_wide c.args.home c.args.gap (sym (simp to_z-of_z at c.if-gap-fits.ensures)) in
-    simp (to_z-of_z, c.in-ok-base.ensures.2) (w, tt)
+    let w = gap_wide c.args.home c.args.gap (sym (simp to_z-of_z at c.if-gap_fits.ensures)) in
+    simp (to_z-of_z, c.in_ok-base.ensures.2) (w, tt)
 
-pub returns-then-gap-fits : goal.returns-then-gap-fits
-returns-then-gap-fits c =
+pub returns-then-gap_fits : goal.returns-then-gap_fits
+returns-then-gap_fits c =
     let f : SFits w32 c.args.gap = search rules in
-    let a = c.in-ok-base.ensures in
-    simp to_z-of_z (a.0, sym (simp to_z-of_z at c.if-gap-fits.ensures), a.1, a.2, a.3, refl)
+    let a = c.in_ok-base.ensures in
+    simp to_z-of_z (a.0, sym (simp to_z-of_z at c.if-gap_fits.ensures), a.1, a.2, a.3, refl)
 
-pub returns-else-gap-fits : goal.returns-else-gap-fits
-returns-else-gap-fits c =
+pub returns-else-gap_fits : goal.returns-else-gap_fits
+returns-else-gap_fits c =
     let f : SFits w32 c.args.gap = search rules in
-    (c.in-ok-base.ensures.0, sym (simp to_z-of_z at c.if-gap-fits.ensures))
+    (c.in_ok-base.ensures.0, sym (simp to_z-of_z at c.if-gap_fits.ensures))

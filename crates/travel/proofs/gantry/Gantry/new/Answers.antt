@@ -4,9 +4,9 @@ use Rattle.std.proofs.lemmas.Bool.{and_parts}
 use Rattle.travel.proofs.Orders.{ordered_ends}
 use Rattle.travel.proofs.gantry.Gantry.new.Goals as goal
 
-pub invariant-of-result : goal.invariant-of-result
-invariant-of-result c =
-    let xyzu = and_parts _ _ (sym c.if-ends-fit.ensures) in
+pub invariant_of-result : goal.invariant_of-result
+invariant_of-result c =
+    let xyzu = and_parts _ _ (sym c.if-ends_fit.ensures) in
     let xyz = and_parts _ _ xyzu.0 in
     let xy = and_parts _ _ xyz.0 in (
       ordered_ends _ _ _ xy.0,

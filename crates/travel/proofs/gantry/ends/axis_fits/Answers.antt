@@ -8,5 +8,5 @@ returns c =
     let f : SFits w32 c.coordinate.result = search rules in
     let g : SFits w32 c.coordinate-2.result = search rules in
     let h : SFits w32 c.coordinate-3.result = search rules in
-    let e = simp to_z-of_z at c.in-order.ensures in
+    let e = simp to_z-of_z at c.in_order.ensures in
     cc (c.coordinate.ensures, c.coordinate-2.ensures, c.coordinate-3.ensures)

@@ -6,8 +6,8 @@ use Rattle.intervals.specs.Same.{interval_same, ends_of}
 use Rattle.intervals.proofs.Bits.{lows_back, highs_back}
 use Rattle.intervals.proofs.interval.numbers.IntervalNumberSet.hull.Goals as goal
 
-pub invariant-of-result : goal.invariant-of-result
-invariant-of-result c =
+pub invariant_of-result : goal.invariant_of-result
+invariant_of-result c =
     let p = lows_back int_min c.args.self c.args.other c.min.result (record { sfits = c.min.type-inv }) c.min.ensures.value in
     let q = highs_back int_max c.args.self c.args.other c.max.result (record { sfits = c.max.type-inv }) c.max.ensures.value in
     ends_of (hull c.args.self c.args.other) _ _ (sym p) (sym q)
