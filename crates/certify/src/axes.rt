@@ -55,7 +55,7 @@ pub(crate) fn set_axes<D: Domain>(state: D, values: &[Option<Value>; AXES]) -> D
 
 // The lowest side that the state does not show.
 pub(crate) fn lowest_unshown<D: Domain, T: Travel>(state: &D, travel: &T) -> Option<usize>
-    ensures { result ≡ lowest (D.Domain.lattice.shows state.now) 0 (sides travel.now) }
+    ensures { result ≡ lowest (D.Domain.lattice.shows state.now) 0 (T.sides travel.now) }
 {
     for n in 0..travel.side_count() {
         match travel.side(n) {

@@ -76,7 +76,7 @@ fn cause_of_move<D: Domain, T: Travel>(
     travel: &T,
     values: &[Option<Value>; AXES],
 ) -> Option<Cause>
-    ensures { result ≡ (if all_sure D.Domain.lattice before.now values.now then broken (lowest (D.Domain.lattice.shows after.now) 0 (sides travel.now)) else Some Cause.Arithmetic) }
+    ensures { result ≡ (if all_sure D.Domain.lattice before.now values.now then broken (lowest (D.Domain.lattice.shows after.now) 0 (T.sides travel.now)) else Some Cause.Arithmetic) }
 {
     if !all_sure(before, values) {
         return Some(Cause::Arithmetic);
@@ -95,7 +95,7 @@ fn move_axes<D: Domain, T: Travel>(
 ) -> Pass<D>
     ensures current { result.current ≡ set_all D.Domain.lattice 0 values.now pass.current }
     ensures changed { result.changed ≡ pass.changed }
-    ensures failing { result.failing ≡ first pass.failing (failure line (if all_sure D.Domain.lattice pass.current values.now then broken (lowest (D.Domain.lattice.shows result.current) 0 (sides travel.now)) else Some Cause.Arithmetic)) }
+    ensures failing { result.failing ≡ first pass.failing (failure line (if all_sure D.Domain.lattice pass.current values.now then broken (lowest (D.Domain.lattice.shows result.current) 0 (T.sides travel.now)) else Some Cause.Arithmetic)) }
     ensures hulls { result.hulls ≡ hulls_with D.Domain.lattice 0 result.current pass.hulls }
 {
     let current = set_axes(pass.current, values);
@@ -162,7 +162,7 @@ pub(crate) fn step<D: Domain, T: Travel>(
     number: usize,
     line: Line,
 ) -> Pass<D>
-    ensures { sweeping store.new result (suc number) ≡ line_step D.Domain.lattice (blocks (held program.now)) (sides travel.now) (sweeping store.old pass number) line }
+    ensures { sweeping store.new result (suc number) ≡ line_step D.Domain.lattice (blocks (held program.now)) (T.sides travel.now) (sweeping store.old pass number) line }
 {
     match line {
         Line::Plain => pass,

@@ -14,7 +14,7 @@ use travel::travel::Travel;
 
 // One step, and what it comes to if the run does not go on.
 fn try_step<T: Travel>(run: &mut Run, program: &Program, travel: &T) -> Option<Ending>
-    ensures { Closed (held program.now) → Tried (held program.now) (sides travel.now) run.old result run.new }
+    ensures { Closed (held program.now) → Tried (held program.now) (T.sides travel.now) run.old result run.new }
 {
     let line = run.line_number(program);
     match run.step(program) {
@@ -51,7 +51,7 @@ pub fn dry<T: Travel>(
     values: [i32; PARAMETERS],
     steps: u32,
 ) -> Ending
-    ensures { Closed (held program.now) → TheEnding (held program.now) (sides travel.now) steps 0 (start (origin travel.now) values) result }
+    ensures { Closed (held program.now) → TheEnding (held program.now) (T.sides travel.now) steps 0 (start (T.origin travel.now) values) result }
 {
     let mut run = Run::begin(travel.home(), values);
     for k in 0..steps {

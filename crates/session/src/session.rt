@@ -89,7 +89,7 @@ impl<T: Travel> Session<T> {
     // What at most so many steps from home, with these values, would come to.
     pub fn dry(&self, values: [i32; PARAMETERS], steps: u32) -> Result<Ending, DryRefusal>
         ensures says { dry-said result ≡ dry-answer (memory self.now).program values steps }
-        ensures ending { IfOk result (TheEnding (memory self.now).program (sides self.now.travel) steps 0 (start (origin self.now.travel) values)) }
+        ensures ending { IfOk result (TheEnding (memory self.now).program (T.sides self.now.travel) steps 0 (start (T.origin self.now.travel) values)) }
     {
         if !self.program.is_closed() {
             return Err(DryRefusal::Open);

@@ -55,7 +55,7 @@ pub fn holds(side: Side, p: Position) -> bool
 }
 
 pub fn lowest_broken<T: Travel>(travel: &T, p: Position) -> Option<usize>
-    ensures { result ≡ lowest (kept p) 0 (sides travel.now) }
+    ensures { result ≡ lowest (kept p) 0 (T.sides travel.now) }
 {
     for n in 0..travel.side_count() {
         match travel.side(n) {

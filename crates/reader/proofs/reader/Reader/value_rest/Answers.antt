@@ -5,13 +5,13 @@ use Rattle.reader.proofs.Chains.{parses_then, parses_stop, parses_pure, parses_b
 use Rattle.reader.proofs.reader.Reader.value_rest.Goals as goal
 use Rattle.grammar.specs.Grammar.{bare}
 
-pub returns-in-err-t : goal.returns-in-err-t
-returns-in-err-t c =
+pub returns-in_err-t-in-Begins : goal.returns-in_err-t-in-Begins
+returns-in_err-t-in-Begins c =
     let p = err_from_is_err_and c.from_residual.result c.from_residual.ensures.1 in
     rw (p.1, p.2) (parses_by value_rest _ _ _ _ _ c.in-Begins.is (parses_stop (term_rest c.in-Begins.first) (λ t. pure (bare t)) _ _ _ c.in-err-t.ensures))
 
-pub returns-in-ok-t : goal.returns-in-ok-t
-returns-in-ok-t c = parses_by value_rest _ _ _ _ _ c.in-Begins.is (parses_then (term_rest c.in-Begins.first) (λ t. pure (bare t)) _ _ _ _ _ c.in-ok-t.ensures
+pub returns-in_ok-t-in-Begins : goal.returns-in_ok-t-in-Begins
+returns-in_ok-t-in-Begins c = parses_by value_rest _ _ _ _ _ c.in-Begins.is (parses_then (term_rest c.in-Begins.first) (λ t. pure (bare t)) _ _ _ _ _ c.in-ok-t.ensures
     (parses_pure _ _))
 
 pub returns-in-Opens : goal.returns-in-Opens

@@ -14,7 +14,7 @@ pub invariant_of-result : goal.invariant_of-result
 invariant_of-result c =
     let f : SFits w32 c.args.gap = search rules in
     let w = gap_wide c.args.home c.args.gap (sym (simp to_z-of_z at c.if-gap_fits.ensures)) in
-    simp (to_z-of_z, c.in_ok-base.ensures.2) (w, tt)
+    simp (to_z-of_z, c.in_ok-base.ensures.2) (record { wide = w })
 
 pub returns-then-gap_fits : goal.returns-then-gap_fits
 returns-then-gap_fits c =
