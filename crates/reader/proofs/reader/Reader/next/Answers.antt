@@ -7,7 +7,10 @@ use Rattle.reader.proofs.reader.Reader.next.Goals as goal
 pub symbol_of-requires : goal.symbol_of-requires
 symbol_of-requires c =
     let f = c.in-Some.ensures.token in
-    (token_some c.args.self.now.lexer.text c.args.self.now.lexer.at _ c.in-Some.t f, token_digits c.args.self.now.lexer.text c.args.self.now.lexer.at _ c.in-Some.t f)
+    record {
+      in_bounds = token_some c.args.self.now.lexer.text c.args.self.now.lexer.at _ c.in-Some.t f;
+      all_digits = token_digits c.args.self.now.lexer.text c.args.self.now.lexer.at _ c.in-Some.t f;
+    }
 
 pub returns-in-None : goal.returns-in-None
 returns-in-None c =
