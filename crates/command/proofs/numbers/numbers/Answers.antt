@@ -16,8 +16,8 @@ loop-i-preserved g c =
     let fits : SFits w32 c.in-Some.value = search rules in
     simp to_z-of_z (goes_on _ _ _ _ _ c.loop-i.invariant _ _ c.loop-i-test.true c.in-Some.ensures)
 
-pub returns-then-is-empty : goal.returns-then-is-empty
-returns-then-is-empty g c = all_read _ _ _ _ _ c.loop-i.invariant c.loop-i-test.false (eqb-true _ _ (sym c.if-is-empty.ensures))
+pub returns-then-is_empty : goal.returns-then-is_empty
+returns-then-is_empty g c = all_read _ _ _ _ _ c.loop-i.invariant c.loop-i-test.false (eqb-true _ _ (sym c.if-is_empty.ensures))
 
-pub returns-else-is-empty : goal.returns-else-is-empty
-returns-else-is-empty g c = too_many _ _ _ _ _ c.loop-i.invariant c.loop-i-test.false (eqb-false _ _ (sym c.if-is-empty.ensures))
+pub returns-else-is_empty : goal.returns-else-is_empty
+returns-else-is_empty g c = too_many _ _ _ _ _ c.loop-i.invariant c.loop-i-test.false (eqb-false _ _ (sym c.if-is_empty.ensures))

@@ -15,7 +15,7 @@ returns-in-Some g c = λ h.
     let more : c.args.steps - c.loop-k.k ≡ suc (c.args.steps - (c.loop-k.k + 1)) = omega arith in
     let way = subst (λ (n : ℕ). UnderWay lines sides c.args.steps n e0 c.loop-k.run) more (c.loop-k.invariant h) in
     subst (λ (e : Env). TheEnding lines sides c.args.steps 0 e c.in-Some.ending) (ap (λ (r : Run). r.registers) c.begin-run.ensures ∙ ap (λ p. start p c.args.values) c.home.ensures)
-    (comes_to lines sides c.args.steps e0 _ _ c.try-step.new.run _ h way (c.in-Some.ensures h))
+    (comes_to lines sides c.args.steps e0 _ _ c.try_step.new.run _ h way (c.in-Some.ensures h))
 
 pub loop-k-preserved : goal.loop-k-preserved
 loop-k-preserved g c = λ h.

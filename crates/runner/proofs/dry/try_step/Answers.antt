@@ -9,10 +9,10 @@ pub returns-in-Ended : goal.returns-in-Ended
 returns-in-Ended g c = λ h. tried_over _ _ _ _ (c.in-Ended.ensures.plain h)
 
 pub returns-in-Fault : goal.returns-in-Fault
-returns-in-Fault g c = λ h. tried_fault _ _ _ _ _ c.line-number-line.ensures (c.in-Fault.ensures.plain h)
+returns-in-Fault g c = λ h. tried_fault _ _ _ _ _ c.line_number-line.ensures (c.in-Fault.ensures.plain h)
 
 pub returns-in-None : goal.returns-in-None
 returns-in-None g c = λ h. tried_inside _ _ _ _ c.in-Commanded.p (sym c.in-None.ensures) (c.in-Commanded.ensures.plain h)
 
 pub returns-in-Some : goal.returns-in-Some
-returns-in-Some g c = λ h. tried_left _ _ _ _ _ _ c.in-Commanded.p c.line-number-line.ensures (sym c.in-Some.ensures) (c.in-Commanded.ensures.plain h)
+returns-in-Some g c = λ h. tried_left _ _ _ _ _ _ c.in-Commanded.p c.line_number-line.ensures (sym c.in-Some.ensures) (c.in-Commanded.ensures.plain h)

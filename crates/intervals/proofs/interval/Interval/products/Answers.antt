@@ -24,12 +24,12 @@ returns c =
     let self-hi : SFits w64 c.args.self.hi = lies_fits _ (hi_lies c.args.self) in
     let other-lo : SFits w64 c.args.other.lo = lies_fits _ (lo_lies c.args.other) in
     let other-hi : SFits w64 c.args.other.hi = lies_fits _ (hi_lies c.args.other) in
-    let fa : SFits w64 c.product-a.result = record { sfits = c.product-a.type-inv } in
-    let fb : SFits w64 c.product-b.result = record { sfits = c.product-b.type-inv } in
-    let fc : SFits w64 c.product-c.result = record { sfits = c.product-c.type-inv } in
-    let fd : SFits w64 c.product-d.result = record { sfits = c.product-d.type-inv } in
-    let fl : SFits w64 c.least.result = record { sfits = c.least.type-inv } in
-    let fg : SFits w64 c.greatest.result = record { sfits = c.greatest.type-inv } in
+    let fa : SFits w64 c.product-a.result = record { sfits = c.product-a.type_inv } in
+    let fb : SFits w64 c.product-b.result = record { sfits = c.product-b.type_inv } in
+    let fc : SFits w64 c.product-c.result = record { sfits = c.product-c.type_inv } in
+    let fd : SFits w64 c.product-d.result = record { sfits = c.product-d.type_inv } in
+    let fl : SFits w64 c.least.result = record { sfits = c.least.type_inv } in
+    let fg : SFits w64 c.greatest.result = record { sfits = c.greatest.type_inv } in
     let a = simp to_z-of_z at c.product-a.ensures in
     let b = simp to_z-of_z at c.product-b.ensures in
     let d = simp to_z-of_z at c.product-c.ensures in

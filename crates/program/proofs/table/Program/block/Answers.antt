@@ -3,8 +3,8 @@ use Rattle.std.proofs.Common.{arith}
 use Rattle.program.proofs.Lookup.{block_total, block_found, block_missing}
 use Rattle.program.proofs.table.Program.block.Goals as goal
 
-pub offset-bounds-self-i : goal.offset-bounds-self-i
-offset-bounds-self-i c = omega (arith, block_total c.args.self.now, c.in-Some.ensures.within)
+pub offset_bounds-self-i : goal.offset_bounds-self-i
+offset_bounds-self-i c = omega (arith, block_total c.args.self.now, c.in-Some.ensures.within)
 
 pub bounds-self-i : goal.bounds-self-i
 bounds-self-i c = omega (arith, block_total c.args.self.now, c.in-Some.ensures.within)

@@ -3,14 +3,12 @@ use Rattle.std.proofs.Common.{sym, arith, length-set, rules}
 use Rattle.program.proofs.Growth.{line_more, taken_line, closes}
 use Rattle.program.proofs.table.Program.end.Goals as goal
 
-pub invariant-of-self : goal.invariant-of-self
-invariant-of-self c = (
-  (omega arith, search (rules, length-set), omega arith, search (rules, length-set)),
-  (
-    taken_line c.args.self.now _ c.requires.room _ c.requires.role (rw (sym c.in-Some.ensures.test)),
-    (closes c.args.self.now _ c.requires.room _ _ _ c.requires.role c.in-Some.ensures.last.1 c.in-Some.ensures.last.0, tt),
-  ),
-)
+pub invariant_of-self : goal.invariant_of-self
+invariant_of-self c = record {
+  fits = (omega arith, search (rules, length-set), omega arith, search (rules, length-set));
+  taken = taken_line c.args.self.now _ c.requires.room _ c.requires.role (rw (sym c.in-Some.ensures.test));
+  agrees = closes c.args.self.now _ c.requires.room _ _ _ c.requires.role c.in-Some.ensures.last.1 c.in-Some.ensures.last.0;
+}
 
 pub returns : goal.returns
 returns c =

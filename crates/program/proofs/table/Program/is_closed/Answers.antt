@@ -8,5 +8,5 @@ use Rattle.program.proofs.table.Program.is_closed.Goals as goal
 
 pub returns : goal.returns
 returns c =
-    let is = sym (not-not c.is-none.result) ∙ ap not (sym c.is-none.ensures) ∙ closed_if c.args.self.now _ c.innermost.ensures in
+    let is = sym (not-not c.is_none.result) ∙ ap not (sym c.is_none.ensures) ∙ closed_if c.args.self.now _ c.innermost.ensures in
     record { is = is; closed = λ e. closed_lines (held c.args.self.now) c.args.self.now.taken (sym is ∙ e) }

@@ -8,8 +8,8 @@ use Rattle.intervals.proofs.interval.numbers.IntervalNumberSet.hull.Goals as goa
 
 pub invariant_of-result : goal.invariant_of-result
 invariant_of-result c =
-    let p = lows_back int_min c.args.self c.args.other c.min.result (record { sfits = c.min.type-inv }) c.min.ensures.value in
-    let q = highs_back int_max c.args.self c.args.other c.max.result (record { sfits = c.max.type-inv }) c.max.ensures.value in
+    let p = lows_back int_min c.args.self c.args.other c.min.result (record { sfits = c.min.type_inv }) c.min.ensures.value in
+    let q = highs_back int_max c.args.self c.args.other c.max.result (record { sfits = c.max.type_inv }) c.max.ensures.value in
     ends_of (hull c.args.self c.args.other) _ _ (sym p) (sym q)
 
 pub returns : goal.returns
