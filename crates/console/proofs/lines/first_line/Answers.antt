@@ -3,11 +3,11 @@ use Rattle.std.proofs.lemmas.Bool.{eqb-true, eqb-false}
 use Rattle.console.proofs.Cuts.{cut_empty, line_there, line_last}
 use Rattle.console.proofs.lines.first_line.Goals as goal
 
-pub returns-then-is-empty : goal.returns-then-is-empty
-returns-then-is-empty c = cut_empty _ (eqb-true _ _ (sym c.if-is-empty.ensures))
+pub returns-then-is_empty : goal.returns-then-is_empty
+returns-then-is_empty c = cut_empty _ (eqb-true _ _ (sym c.if-is_empty.ensures))
 
 pub returns-then-n-text : goal.returns-then-n-text
-returns-then-n-text c = line_there _ _ c.len-until-n.ensures.is c.if-n-text.true
+returns-then-n-text c = line_there _ _ c.len_until-n.ensures.is c.if-n-text.true
 
 pub returns-else-n-text : goal.returns-else-n-text
-returns-else-n-text c = line_last _ _ c.len-until-n.ensures.is c.if-n-text.false (eqb-false _ _ (sym c.if-is-empty.ensures))
+returns-else-n-text c = line_last _ _ c.len_until-n.ensures.is c.if-n-text.false (eqb-false _ _ (sym c.if-is_empty.ensures))

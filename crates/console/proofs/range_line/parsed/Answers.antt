@@ -9,4 +9,4 @@ returns-in-63 c =
     let blank : get_or c.args.line.now 2 0 ≡ 32 = search rules in
     let low : 48 ≤ get_or c.args.line.now 1 0 = search rules in
     let high : get_or c.args.line.now 1 0 ≤ 57 = search rules in
-    c.two-numbers.ensures ∙ range _ long mark low high blank
+    c.two_numbers.ensures ∙ range _ long mark low high blank
