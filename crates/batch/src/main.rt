@@ -14,7 +14,7 @@ fn first_input(text: &[u8]) -> Option<(&[u8], &[u8])>
 {
     let mut rest = text;
     while let Some((line, more)) = first_line(rest) {
-        if line == b"----" {
+        if line == b"----".as_slice() {
             return Some((&text[0..text.len() - rest.len()], more));
         }
         rest = more;

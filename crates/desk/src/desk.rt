@@ -20,7 +20,7 @@ pub type Table = Either<Gantry, Beam>;
 
 // A call of a session.
 fn call<T: Travel>(session: &mut Session<T>, n: usize, command: Command) -> Answer
-    ensures serves { Calls (sides session.old.travel) (origin session.old.travel) (memory session.old) n (meant command.entry) (said result) (memory session.new) }
+    ensures serves { Calls (T.sides session.old.travel) (T.origin session.old.travel) (memory session.old) n (meant command.entry) (said result) (memory session.new) }
     ensures travel { session.new.travel ≡ session.old.travel }
 {
     match command {
