@@ -13,7 +13,7 @@ invariant_of-result c =
     let f : SFits w64 c.args.self.residue = search rules in
     let g : SFits w64 c.rest.result = search rules in
     let e = to_z-of_z w64 c.rest.result g ∙ ((simp to_z-of_z at c.rest.ensures) ∙ ap (λ (m : ℕ). rest m c.args.self.residue) c.hull_modulus-m.ensures) in
-    (subst₂ (λ (m : ℕ) (r : ℤ). proper m r ≡ true) (sym c.hull_modulus-m.ensures) (sym e) (join_proper c.args.self c.args.other), tt)
+    record { ok = subst₂ (λ (m : ℕ) (r : ℤ). proper m r ≡ true) (sym c.hull_modulus-m.ensures) (sym e) (join_proper c.args.self c.args.other) }
 
 pub returns : goal.returns
 returns c =
