@@ -2,16 +2,17 @@
 use desk::answer::Answer;
 use desk::desk::{first_table, serve};
 use session::session::Session;
+use std::process::Abort;
 use std::test::*;
 
-fn check_last(rt: &HostRuntime, script: &[&[u8]], last: &str) -> Result<(), Fail> {
+fn check_last(rt: &(impl Abort + AllocGlobal), script: &[&[u8]], last: &str) -> Result<(), Fail> {
     let mut session = Session::new(first_table());
     let mut answer = Answer::Done;
     for command in script {
         answer = serve(&mut session, 0, command);
     }
     let shown = format!(in rt.alloc(); "{answer}")?;
-    assert!(shown.as_str() == last);
+    assert!(rt; shown.as_str() == last);
     Ok(())
 }
 
@@ -22,7 +23,7 @@ const ROUNDS: [&[u8]; 4] = [
     b"line O1 ENDWHILE",
 ];
 
-fn check_rounds(rt: &HostRuntime, dry: &[u8], last: &str) -> Result<(), Fail> {
+fn check_rounds(rt: &(impl Abort + AllocGlobal), dry: &[u8], last: &str) -> Result<(), Fail> {
     check_last(rt, &[ROUNDS[0], ROUNDS[1], ROUNDS[2], ROUNDS[3], dry], last)
 }
 

@@ -12,7 +12,7 @@ use travel::travel::Travel;
 
 // A value that is there does not fault.
 fn is_sure<D: Domain>(state: &D, value: Option<Value>) -> bool
-    ensures { result ≡ sure_one lattice state.now value }
+    ensures { result ≡ sure_one D.lattice state.now value }
 {
     match value {
         None => true,
@@ -22,7 +22,7 @@ fn is_sure<D: Domain>(state: &D, value: Option<Value>) -> bool
 
 // None of the values faults.
 pub(crate) fn all_sure<D: Domain>(state: &D, values: &[Option<Value>; AXES]) -> bool
-    ensures { result ≡ all_sure lattice state.now values.now }
+    ensures { result ≡ all_sure D.lattice state.now values.now }
 {
     for value in values {
         if !is_sure(state, *value) {
@@ -34,7 +34,7 @@ pub(crate) fn all_sure<D: Domain>(state: &D, values: &[Option<Value>; AXES]) -> 
 
 fn with_value<D: Domain>(state: D, register: usize, value: Option<Value>) -> D
     requires { register < registers }
-    ensures { result ≡ set_one lattice register value state }
+    ensures { result ≡ set_one D.lattice register value state }
 {
     match value {
         None => state,
@@ -44,7 +44,7 @@ fn with_value<D: Domain>(state: D, register: usize, value: Option<Value>) -> D
 
 // The axes take those of the values that are there, in register order.
 pub(crate) fn set_axes<D: Domain>(state: D, values: &[Option<Value>; AXES]) -> D
-    ensures { result ≡ set_all lattice 0 values.now state }
+    ensures { result ≡ set_all D.lattice 0 values.now state }
 {
     let mut after = state;
     for (register, value) in values.iter().enumerate() {
@@ -55,7 +55,7 @@ pub(crate) fn set_axes<D: Domain>(state: D, values: &[Option<Value>; AXES]) -> D
 
 // The lowest side that the state does not show.
 pub(crate) fn lowest_unshown<D: Domain, T: Travel>(state: &D, travel: &T) -> Option<usize>
-    ensures { result ≡ lowest (D.Domain.lattice.shows state.now) 0 (T.sides travel.now) }
+    ensures { result ≡ lowest (D.lattice.shows state.now) 0 (T.sides travel.now) }
 {
     for n in 0..travel.side_count() {
         match travel.side(n) {
@@ -90,7 +90,7 @@ pub(crate) fn hulls_with<D: Domain>(
     state: &D,
     hulls: [Option<Range>; AXES],
 ) -> [Option<Range>; AXES]
-    ensures { result ≡ hulls_with lattice 0 state.now hulls }
+    ensures { result ≡ hulls_with D.lattice 0 state.now hulls }
 {
     let full = Range {
         lo: -LIMIT,

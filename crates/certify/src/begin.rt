@@ -12,14 +12,14 @@ use model::side::Position;
 // The register has this number alone.
 fn pinned<D: Domain>(state: D, register: usize, n: i32) -> D
     requires { register < registers }
-    ensures { result ≡ lattice.narrow state register (single n) }
+    ensures { result ≡ D.lattice.narrow state register (single n) }
 {
     state.narrow(register, Range { lo: n, hi: n })
 }
 
 // The axes at home, and each parameter in its allowed range.
 pub(crate) fn begin<D: Domain>(home: Position, allowed: &[Range; PARAMETERS]) -> D
-    ensures { result ≡ start lattice home allowed.now }
+    ensures { result ≡ start D.lattice home allowed.now }
 {
     let x = pinned(D::any(), 0, home.x);
     let y = pinned(x, 1, home.y);

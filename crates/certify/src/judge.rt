@@ -26,7 +26,7 @@ fn sweep_once<D: Domain, T: Travel>(
     start: D,
     store: &mut [D],
 ) -> Pass<D>
-    ensures { sweeping store.new result (suc (length (held program.now))) ≡ sweep D.Domain.lattice (blocks (held program.now)) (T.sides travel.now) (held program.now) start store.old }
+    ensures { sweeping store.new result (suc (length (held program.now))) ≡ sweep D.lattice (blocks (held program.now)) (T.sides travel.now) (held program.now) start store.old }
 {
     let mut pass = Pass {
         current: start,
@@ -43,7 +43,7 @@ fn sweep_once<D: Domain, T: Travel>(
 
 fn settle<D: Domain, T: Travel>(program: &Program, travel: &T, start: D, store: &mut [D]) -> Pass<D>
     requires { (Closed (held program.now)) × (length (labels (held program.now)) ≤ length store.old) }
-    ensures { Settles D.Domain.lattice (blocks (held program.now)) (T.sides travel.now) (held program.now) start store.old (sweeping store.new result (suc (length (held program.now)))) }
+    ensures { Settles D.lattice (blocks (held program.now)) (T.sides travel.now) (held program.now) start store.old (sweeping store.new result (suc (length (held program.now)))) }
 {
     loop {
         let pass = sweep_once(program, travel, start, store);

@@ -35,7 +35,7 @@ fn first_failure(failing: Option<Failure>, line: usize, cause: Option<Cause>) ->
 
 // Only what meets the condition goes on.
 fn kept<D: Domain>(pass: Pass<D>, condition: Condition) -> Pass<D>
-    ensures current { result.current ≡ lattice.keep pass.current condition }
+    ensures current { result.current ≡ D.lattice.keep pass.current condition }
     ensures changed { result.changed ≡ pass.changed }
     ensures failing { result.failing ≡ pass.failing }
     ensures hulls { result.hulls ≡ pass.hulls }
@@ -52,9 +52,9 @@ fn set_parameter<D: Domain>(
     parameter: Parameter,
     value: Value,
 ) -> Pass<D>
-    ensures current { result.current ≡ lattice.set pass.current (register parameter) value.expression }
+    ensures current { result.current ≡ D.lattice.set pass.current (register parameter) value.expression }
     ensures changed { result.changed ≡ pass.changed }
-    ensures failing { result.failing ≡ first pass.failing (failure line (if lattice.sure pass.current value.expression then None else Some Cause.Arithmetic)) }
+    ensures failing { result.failing ≡ first pass.failing (failure line (if D.lattice.sure pass.current value.expression then None else Some Cause.Arithmetic)) }
     ensures hulls { result.hulls ≡ pass.hulls }
 {
     let cause = if pass.current.sure(value.expression) {
@@ -76,7 +76,7 @@ fn cause_of_move<D: Domain, T: Travel>(
     travel: &T,
     values: &[Option<Value>; AXES],
 ) -> Option<Cause>
-    ensures { result ≡ (if all_sure D.Domain.lattice before.now values.now then broken (lowest (D.Domain.lattice.shows after.now) 0 (T.sides travel.now)) else Some Cause.Arithmetic) }
+    ensures { result ≡ (if all_sure D.lattice before.now values.now then broken (lowest (D.lattice.shows after.now) 0 (T.sides travel.now)) else Some Cause.Arithmetic) }
 {
     if !all_sure(before, values) {
         return Some(Cause::Arithmetic);
@@ -93,10 +93,10 @@ fn move_axes<D: Domain, T: Travel>(
     travel: &T,
     values: &[Option<Value>; AXES],
 ) -> Pass<D>
-    ensures current { result.current ≡ set_all D.Domain.lattice 0 values.now pass.current }
+    ensures current { result.current ≡ set_all D.lattice 0 values.now pass.current }
     ensures changed { result.changed ≡ pass.changed }
-    ensures failing { result.failing ≡ first pass.failing (failure line (if all_sure D.Domain.lattice pass.current values.now then broken (lowest (D.Domain.lattice.shows result.current) 0 (T.sides travel.now)) else Some Cause.Arithmetic)) }
-    ensures hulls { result.hulls ≡ hulls_with D.Domain.lattice 0 result.current pass.hulls }
+    ensures failing { result.failing ≡ first pass.failing (failure line (if all_sure D.lattice pass.current values.now then broken (lowest (D.lattice.shows result.current) 0 (T.sides travel.now)) else Some Cause.Arithmetic)) }
+    ensures hulls { result.hulls ≡ hulls_with D.lattice 0 result.current pass.hulls }
 {
     let current = set_axes(pass.current, values);
     let cause = cause_of_move(&pass.current, &current, travel, values);
@@ -115,7 +115,7 @@ fn pass_loop<D: Domain>(
     pass: Pass<D>,
     condition: Condition,
 ) -> Pass<D>
-    ensures flow { flowing store.new result ≡ keeping lattice condition (came lattice place (flowing store.old pass)) }
+    ensures flow { flowing store.new result ≡ keeping D.lattice condition (came D.lattice place (flowing store.old pass)) }
     ensures failing { result.failing ≡ pass.failing }
     ensures hulls { result.hulls ≡ pass.hulls }
 {
@@ -130,8 +130,8 @@ fn enter_branch<D: Domain>(
     pass: Pass<D>,
     condition: Condition,
 ) -> Pass<D>
-    ensures store { store.new ≡ slice_set store.old place (lattice.keep pass.current (opposite condition)) }
-    ensures current { result.current ≡ lattice.keep pass.current condition }
+    ensures store { store.new ≡ slice_set store.old place (D.lattice.keep pass.current (opposite condition)) }
+    ensures current { result.current ≡ D.lattice.keep pass.current condition }
     ensures changed { result.changed ≡ pass.changed }
     ensures failing { result.failing ≡ pass.failing }
     ensures hulls { result.hulls ≡ pass.hulls }
@@ -141,7 +141,7 @@ fn enter_branch<D: Domain>(
 }
 
 fn leave_branch<D: Domain>(store: &[D], place: usize, pass: Pass<D>) -> Pass<D>
-    ensures current { result.current ≡ lattice.join (slice_index_or store.now place lattice.none) pass.current }
+    ensures current { result.current ≡ D.lattice.join (slice_index_or store.now place D.lattice.none) pass.current }
     ensures changed { result.changed ≡ pass.changed }
     ensures failing { result.failing ≡ pass.failing }
     ensures hulls { result.hulls ≡ pass.hulls }
@@ -162,7 +162,7 @@ pub(crate) fn step<D: Domain, T: Travel>(
     number: usize,
     line: Line,
 ) -> Pass<D>
-    ensures { sweeping store.new result (suc number) ≡ line_step D.Domain.lattice (blocks (held program.now)) (T.sides travel.now) (sweeping store.old pass number) line }
+    ensures { sweeping store.new result (suc number) ≡ line_step D.lattice (blocks (held program.now)) (T.sides travel.now) (sweeping store.old pass number) line }
 {
     match line {
         Line::Plain => pass,

@@ -36,7 +36,7 @@ pub(crate) fn condition_of(program: &Program, label: u16) -> Condition
 }
 
 pub(crate) fn stored<D: Domain>(store: &[D], place: usize) -> D
-    ensures { result ≡ slice_index_or store.now place lattice.none }
+    ensures { result ≡ slice_index_or store.now place D.lattice.none }
 {
     if place < store.len() {
         store[place]
@@ -55,7 +55,7 @@ pub(crate) fn put<D: Domain>(store: &mut [D], place: usize, state: D)
 
 // The current state comes to a loop's state, and goes on as that.
 pub(crate) fn come<D: Domain>(store: &mut [D], place: usize, pass: Pass<D>) -> Pass<D>
-    ensures flow { flowing store.new result ≡ came lattice place (flowing store.old pass) }
+    ensures flow { flowing store.new result ≡ came D.lattice place (flowing store.old pass) }
     ensures failing { result.failing ≡ pass.failing }
     ensures hulls { result.hulls ≡ pass.hulls }
 {
@@ -77,7 +77,7 @@ pub(crate) fn come<D: Domain>(store: &mut [D], place: usize, pass: Pass<D>) -> P
 
 // No environment at any block.
 pub(crate) fn clear<D: Domain>(store: &mut [D])
-    ensures { store.new ≡ replicate (length store.old) lattice.none }
+    ensures { store.new ≡ replicate (length store.old) D.lattice.none }
 {
     for i in 0..store.len() {
         store[i] = D::none();

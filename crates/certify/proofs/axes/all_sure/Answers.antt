@@ -7,12 +7,12 @@ use Rattle.certify.proofs.axes.all_sure.Goals as goal
 pub loop-value-preserved : goal.loop-value-preserved
 loop-value-preserved g c =
     let h : c.loop-value.value-index < length c.args.values.now = omega arith in
-    c.loop-value.invariant ∙ sure_more g.D.Domain.lattice c.args.state.now c.args.values.now c.loop-value.value-index _ h c.if-not-is-sure.ensures
+    c.loop-value.invariant ∙ sure_more g.D.Domain.lattice c.args.state.now c.args.values.now c.loop-value.value-index _ h c.if-not-is_sure.ensures
 
-pub returns-then-not-is-sure : goal.returns-then-not-is-sure
-returns-then-not-is-sure g c =
+pub returns-then-not-is_sure : goal.returns-then-not-is_sure
+returns-then-not-is_sure g c =
     let h : c.loop-value.value-index < length c.args.values.now = omega arith in
-    sym (c.loop-value.invariant ∙ sure_stops g.D.Domain.lattice c.args.state.now c.args.values.now c.loop-value.value-index _ h c.if-not-is-sure.ensures)
+    sym (c.loop-value.invariant ∙ sure_stops g.D.Domain.lattice c.args.state.now c.args.values.now c.loop-value.value-index _ h c.if-not-is_sure.ensures)
 
 pub returns : goal.returns
 returns g c =

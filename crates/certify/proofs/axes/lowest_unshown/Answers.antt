@@ -25,5 +25,5 @@ loop-n-preserved g c =
 pub returns : goal.returns
 returns g c =
     let ss = g.T.Travel.sides c.args.travel.now in
-    let h : length ss ≤ c.loop-n.n = omega (arith, c.side-count-n-end.ensures) in
+    let h : length ss ≤ c.loop-n.n = omega (arith, c.side_count-n-end.ensures) in
     sym (c.loop-n.invariant ∙ at_drop_all (lowest (g.D.Domain.lattice.shows c.args.state.now) c.loop-n.n) ss c.loop-n.n h)

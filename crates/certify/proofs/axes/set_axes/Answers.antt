@@ -10,7 +10,7 @@ loop-register-preserved g c =
     let i = c.loop-register.register in
     let vs = c.args.values.now in
     let h : i < length vs = omega arith in
-    c.loop-register.invariant ∙ set_more l c.loop-register.after c.with-value-after.result vs i _ h c.with-value-after.ensures
+    c.loop-register.invariant ∙ set_more l c.loop-register.after c.with_value-after.result vs i _ h c.with_value-after.ensures
 
 pub returns : goal.returns
 returns g c =
