@@ -55,7 +55,7 @@ def collect(root):
     """Old names with their new ones, and the names that have no dash."""
     renamed, plain, types = {}, collections.defaultdict(set), collections.defaultdict(set)
     for path in sorted(glob.glob(root + "/crates/*/specs/**/*.antt", recursive=True) + glob.glob(root + "/crates/*/proofs/**/*.antt", recursive=True)):
-        if path.endswith(MADE):
+        if "/proofs/" in path and path.endswith(MADE):
             continue
         for m in DECLARED.finditer(read(path)):
             name = m[3]

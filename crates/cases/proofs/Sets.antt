@@ -1,5 +1,5 @@
 -- The examples, computed.
-use Rattle.std.proofs.Common.{◌≡◌, pos, Some, refl, ap, ◌∙◌, ap₂}
+use Rattle.std.proofs.Common.{◌≡◌, pos, refl, ap, ◌∙◌, ap₂}
 use Rattle.intervals.specs.Conditions.{both}
 use Rattle.intervals.specs.Makes.{made_some}
 use Rattle.intervals.specs.Same.{interval_same}
@@ -9,9 +9,8 @@ use Rattle.congruences.specs.Commons.{common}
 use Rattle.congruences.specs.Conditions.{doubled}
 use Rattle.congruences.specs.Numbers.{congruences}
 use Rattle.congruences.specs.Settled.{checked, pick}
-use Rattle.congruences.specs.Singles.{or_whole}
 use Rattle.congruences.specs.Checks.{checked_some}
-use Rattle.cases.specs.Sets.{Sets, to_4, to_5, to_9, to_limit, from_1_to_5, four_by_6, one_by_4, three_by_6, nine_by_12}
+use Rattle.cases.specs.Sets.{Sets, to_4, from_1_to_5, four_by_6, one_by_4, three_by_6, nine_by_12}
 
 joined : congruences.hull (congruences.single (pos 4)) (congruences.single (pos 10)) ≡ four_by_6
 unfolding gcd gcd_by checked pick

@@ -1,12 +1,11 @@
 -- Intervals and congruences by examples.
-use Rattle.std.specs.Prelude.{◌≡◌, ℕ, pos, Some, refl}
+use Rattle.std.specs.Prelude.{◌≡◌, pos, Some, refl}
 use Rattle.model.specs.declared.expression.Rel.TheVariants.{Eq, Lt}
 use Rattle.model.specs.Limits.{limit}
 use Rattle.intervals.specs.declared.interval.Interval.{Interval}
 use Rattle.intervals.specs.Made.{between}
 use Rattle.intervals.specs.Intervals.{intervals}
 use Rattle.congruences.specs.declared.congruence.Congruence.{Congruence}
-use Rattle.congruences.specs.Shape.{proper}
 use Rattle.congruences.specs.Numbers.{congruences}
 
 -- from 0 to a number

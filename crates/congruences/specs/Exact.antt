@@ -35,7 +35,6 @@ use Rattle.congruences.specs.Proper.{le_yes}
 use Rattle.congruences.specs.Same.{congruence_same}
 use Rattle.congruences.specs.Settles.{zero_same}
 use Rattle.congruences.specs.SinglesLemmas.{just, single_is}
-use Rattle.domain.specs.Lattice.{single as point}
 
 gcd_none : (a b : ℕ) → a ≡ 0 → b ≡ 0 → gcd a b ≡ 0
 gcd_none a b p q = ap₂ gcd p q ∙ gcd_only 0 0 (gcd 0 0) 0 (gcd_is 0 0) (gcd_zero 0)

@@ -1,5 +1,5 @@
 -- The least congruence that holds two, and whether one lies in another.
-use Rattle.std.specs.Prelude.{ℕ, Bool, ◌&&◌, ℤ, ◌-ℤ◌, unsigned_abs}
+use Rattle.std.specs.Prelude.{ℕ, Bool, ◌&&◌, ◌-ℤ◌, unsigned_abs}
 use Rattle.divisibility.specs.Multiples.{divides, agrees}
 use Rattle.divisibility.specs.Gcds.{gcd}
 use Rattle.congruences.specs.Settled.{settled}

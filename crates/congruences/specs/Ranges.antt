@@ -1,5 +1,5 @@
 -- The least and the greatest member of a congruence in a range.
-use Rattle.std.specs.Prelude.{◌≡◌, Bool, cond, ◌&&◌, ◌⊎◌, ℤ, pos, ◌+ℤ◌, ◌-ℤ◌, neg_ℤ, ◌≤ℤ◌, Some, None, Option, int_le}
+use Rattle.std.specs.Prelude.{◌≡◌, cond, ◌&&◌, ◌⊎◌, ℤ, pos, ◌+ℤ◌, ◌-ℤ◌, neg_ℤ, ◌≤ℤ◌, Some, None, Option, int_le}
 use Rattle.std.specs.Int.{int_min, int_max}
 use Rattle.model.specs.declared.range.Range.{Range}
 use Rattle.model.specs.Limits.{limit}

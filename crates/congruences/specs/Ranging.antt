@@ -4,7 +4,6 @@ use Rattle.std.proofs.Common.{inl, inr, ap, subst, subst₂, sym, arith, eqb-tru
 use Rattle.std.proofs.lemmas.Int.{ints}
 use Rattle.std.proofs.lemmas.Bool.{and_cases, and_from, and_parts, eqb-false}
 use Rattle.model.specs.declared.range.Range.{Range}
-use Rattle.divisibility.specs.Leasts.{least}
 use Rattle.divisibility.specs.Multiples.{Multiple, remainder}
 use Rattle.divisibility.proofs.Multiples.{mod_parts, moved, mult_add, mult_sub, mult_zero}
 use Rattle.congruences.specs.Ranges.{Misses, Spans, ends, first, last}

@@ -1,5 +1,5 @@
 -- Sums, differences and products of the members of two congruences.
-use Rattle.std.specs.Prelude.{ℕ, ◌*◌, Bool, ◌&&◌, ℤ, Option, unsigned_abs}
+use Rattle.std.specs.Prelude.{ℕ, ◌*◌, Bool, ◌&&◌, Option, unsigned_abs}
 use Rattle.model.specs.declared.expression.Op.{Op}
 use Rattle.model.specs.declared.expression.Op.TheVariants.{Add, Sub, Mul}
 use Rattle.model.specs.Environments.{fit}

@@ -1,5 +1,5 @@
 -- The lines of a text: each ends with a line feed, which only the last one may lack.
-use Rattle.std.specs.Prelude.{◌≡◌, ℕ, ◌+◌, false, cond, List, [], ◌∷◌, ◌++◌, ◌==◌}
+use Rattle.std.specs.Prelude.{◌≡◌, ℕ, false, cond, List, [], ◌∷◌, ◌++◌, ◌==◌}
 
 abbrev pub NoFeed : List ℕ → Type 0
 NoFeed [] = Unit {0}

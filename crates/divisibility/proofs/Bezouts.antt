@@ -1,12 +1,12 @@
 -- What follows from a factor that brings m to the gcd, but for multiples of n.
-use Rattle.std.proofs.Common.{◌≡◌, ℕ, zero, suc, ◌+◌, ◌*◌, ◌/◌, ◌%◌, ◌<◌, ◌≤◌, Bool, true, false, cond, eqb, ℤ, pos, negsuc, ◌+ℤ◌, ◌-ℤ◌, ◌*ℤ◌, neg_ℤ, nat_abs, sym, refl, ap, ◌∙◌, subst, ap₂, mod-lt, div-add-mod', arith, eqb-true}
+use Rattle.std.proofs.Common.{◌≡◌, ℕ, zero, suc, ◌*◌, ◌/◌, ◌%◌, ◌<◌, Bool, true, false, cond, eqb, ℤ, pos, negsuc, ◌+ℤ◌, ◌-ℤ◌, ◌*ℤ◌, neg_ℤ, sym, refl, ap, ◌∙◌, subst, ap₂, mod-lt, div-add-mod', arith, eqb-true}
 use lib.IntN.{*ℤ_comm}
 use native.Mathlib.Nat.{eq_of_mul-eq-mul_left}
 use borrow.Author.Tests.{eqb-false}
 use Rattle.std.proofs.lemmas.Int.{ints}
 use Rattle.divisibility.proofs.Ring.{add_mul, neg_mul, mul_add, mul_sub, mul_swap, mul_assoc}
 use Rattle.divisibility.specs.Multiples.{Multiple}
-use Rattle.divisibility.proofs.Multiples.{moved, mult_zero, mult_self, mult_add, mult_sub, mult_neg, mult_scale, mult_trans, mult_abs, mult_of_abs, mult_bound, mod_parts}
+use Rattle.divisibility.proofs.Multiples.{moved, mult_zero, mult_self, mult_sub, mult_neg, mult_scale, mult_of_abs}
 use Rattle.divisibility.specs.Gcds.{Gcd, gcd_by, gcd}
 use Rattle.divisibility.proofs.Divides.{rest_zero}
 

@@ -1,10 +1,10 @@
 -- One turn of the loop that brings m to the gcd.
-use Rattle.std.proofs.Common.{◌≡◌, ℕ, ◌+◌, ◌-◌, ◌*◌, ◌/◌, ◌%◌, ◌<◌, ◌≤◌, ℤ, pos, negsuc, ◌+ℤ◌, ◌-ℤ◌, ◌*ℤ◌, neg_ℤ, sym, refl, ap, ◌∙◌, subst, ap₂, mod-lt, div-add-mod', arith}
+use Rattle.std.proofs.Common.{◌≡◌, ℕ, ◌+◌, ◌-◌, ◌*◌, ◌/◌, ◌%◌, ◌<◌, ℤ, pos, ◌+ℤ◌, ◌-ℤ◌, ◌*ℤ◌, neg_ℤ, ap, ◌∙◌, mod-lt, div-add-mod', arith}
 use lib.IntN.{*ℤ_comm}
 use Rattle.std.proofs.lemmas.Int.{ints}
-use Rattle.divisibility.proofs.Ring.{add_mul, neg_mul, mul_sub, mul_swap, mul_assoc}
+use Rattle.divisibility.proofs.Ring.{mul_sub, mul_swap}
 use Rattle.divisibility.specs.Multiples.{Multiple}
-use Rattle.divisibility.proofs.Multiples.{moved, mult_zero, mult_self, mult_add, mult_sub, mult_neg, mult_scale, mod_parts}
+use Rattle.divisibility.proofs.Multiples.{moved, mult_self, mult_sub, mult_neg, mult_scale, mod_parts}
 
 pub next_same : (p k q n : ℕ) → 0 < n → Multiple n ((pos p -ℤ (pos k *ℤ pos q)) -ℤ pos ((p + n - k * q % n) % n))
 next_same p k q n h =

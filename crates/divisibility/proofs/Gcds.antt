@@ -1,10 +1,10 @@
 -- Euclid's rule gives the greatest common divisor, and there is no other.
-use Rattle.std.proofs.Common.{◌≡◌, ℕ, zero, suc, ◌+◌, ◌*◌, ◌/◌, ◌%◌, ◌<◌, ◌≤◌, Bool, true, false, cond, T, eqb, ℤ, pos, negsuc, ◌+ℤ◌, ◌-ℤ◌, ◌*ℤ◌, neg_ℤ, nat_abs, sym, refl, ap, ◌∙◌, subst, ap₂, mod-lt, div-add-mod', arith}
+use Rattle.std.proofs.Common.{◌≡◌, ℕ, zero, suc, ◌/◌, ◌%◌, ◌<◌, ◌≤◌, Bool, true, false, cond, eqb, pos, ◌+ℤ◌, ◌-ℤ◌, ◌*ℤ◌, sym, refl, subst, mod-lt, div-add-mod', arith}
 use Rattle.std.proofs.lemmas.Int.{ints}
 use Rattle.std.proofs.lemmas.Bool.{eqb-true, eqb-false}
 use Rattle.divisibility.specs.Multiples.{Multiple}
 use Rattle.divisibility.specs.Gcds.{Gcd, gcd_by, gcd}
-use Rattle.divisibility.proofs.Multiples.{moved, mult_zero, mult_self, mult_add, mult_sub, mult_scale, mult_trans, mult_bound}
+use Rattle.divisibility.proofs.Multiples.{moved, mult_zero, mult_self, mult_add, mult_sub, mult_scale, mult_bound}
 
 pub gcd_zero : (a : ℕ) → Gcd a 0 a
 gcd_zero a = record { left = mult_self a; right = mult_zero a; greatest = λ d p q. p }

@@ -1,9 +1,8 @@
 -- Sums, multiples and bounds of multiples; remainders.
-use Rattle.std.proofs.Common.{◌≡◌, ℕ, zero, suc, ◌+◌, ◌-◌, ◌*◌, ◌/◌, ◌%◌, ◌<◌, ◌≤◌, ℤ, pos, negsuc, ◌+ℤ◌, ◌-ℤ◌, ◌*ℤ◌, neg_ℤ, nat_abs, ◌≤ℤ◌, ◌<ℤ◌, sym, refl, ap, ◌∙◌, subst, ap₂, mod-lt, div-add-mod', arith}
-use lib.IntN.{*ℤ_comm}
+use Rattle.std.proofs.Common.{◌≡◌, ℕ, zero, suc, ◌/◌, ◌<◌, ◌≤◌, ℤ, pos, negsuc, ◌+ℤ◌, ◌-ℤ◌, ◌*ℤ◌, neg_ℤ, nat_abs, ◌≤ℤ◌, ◌<ℤ◌, sym, ap, ◌∙◌, ap₂, mod-lt, div-add-mod', arith}
 use Rattle.std.proofs.lemmas.Int.{ints}
 use Rattle.divisibility.specs.Multiples.{Multiple, remainder}
-use Rattle.divisibility.proofs.Ring.{add_mul, neg_mul, mul_assoc, mul_add}
+use Rattle.divisibility.proofs.Ring.{add_mul, neg_mul, mul_assoc}
 
 pub moved : (m : ℕ) (y z : ℤ) → y ≡ z → Multiple m y → Multiple m z
 moved m y z e h = record { times = h.times; is = sym e ∙ h.is }

@@ -1,5 +1,5 @@
 -- An equation modulo n has a solution where the gcd divides its right side, and Bézout's factor gives the least one.
-use Rattle.std.proofs.Common.{◌≡◌, ℕ, ◌-◌, ◌*◌, ◌/◌, ◌%◌, ◌<◌, ◌≤◌, Bool, true, false, ℤ, pos, ◌+ℤ◌, ◌-ℤ◌, ◌*ℤ◌, neg_ℤ, Some, None, sym, refl, mod-lt, div-le_self, arith}
+use Rattle.std.proofs.Common.{◌≡◌, ℕ, ◌-◌, ◌*◌, ◌/◌, ◌%◌, ◌<◌, ◌≤◌, Bool, true, false, ℤ, pos, ◌+ℤ◌, ◌-ℤ◌, ◌*ℤ◌, neg_ℤ, Some, None, refl, mod-lt, div-le_self, arith}
 use Rattle.std.proofs.lemmas.Int.{ints}
 use Rattle.divisibility.specs.Multiples.{Multiple}
 use Rattle.divisibility.specs.Gcds.{Gcd, Brings}

@@ -1,5 +1,5 @@
 -- Linear equations modulo n.
-use Rattle.std.specs.Prelude.{ℕ, Bool, ℤ, pos, ◌*ℤ◌}
+use Rattle.std.specs.Prelude.{ℕ, Bool, pos, ◌*ℤ◌}
 use Rattle.divisibility.specs.Multiples.{agrees}
 
 -- t times m is d, but for a multiple of n

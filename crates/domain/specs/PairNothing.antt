@@ -1,13 +1,12 @@
 -- A product of strict domains is strict.
-use Rattle.std.specs.Prelude.{◌≡◌, ℕ, zero, suc, ◌<◌, ◌≤◌, Bool, true, false, ◌&&◌, ◌||◌}
+use Rattle.std.specs.Prelude.{◌≡◌, ℕ, zero, suc, ◌≤◌}
 use Rattle.std.proofs.Math.Path.{refl, ap}
-use Rattle.std.proofs.Common.{ap₂, sym, ◌∙◌, arith}
+use Rattle.std.proofs.Common.{◌∙◌, arith}
 use Rattle.std.proofs.lemmas.Bool.{and_parts, and_from, or_left}
-use Rattle.model.specs.declared.range.Range.{Range}
 use Rattle.domain.specs.declared.product.Product.{Product}
 use Rattle.domain.specs.Lattice.{Lattice, empty}
 use Rattle.domain.specs.Nothing.{Strict}
-use Rattle.domain.specs.Pairs.{pair, reduce, reduce_at, outcome}
+use Rattle.domain.specs.Pairs.{pair, reduce, reduce_at}
 
 both : {A B : Type 0} (x y : Product A B) → x.first ≡ y.first → x.second ≡ y.second → x ≡ y
 both x y p q i = record { first = p i; second = q i }

@@ -14,7 +14,6 @@ use Rattle.grammar.specs.declared.symbol.Tested.{Tested}
 use Rattle.grammar.specs.declared.symbol.Tested.TheVariants.{Fits as fits, Over as over, Wrong as wrong}
 use Rattle.grammar.proofs.Reading.{Lawful}
 use Rattle.grammar.specs.Tests.{code, choose, upto, mixed, digits, words, only, axis, relation}
-use Rattle.model.specs.Limits.{limit}
 
 -- ---- the three outcomes are apart
 pub wrong_fits : {A : Type 0} {P : Type 0} {a : A} → wrong ≡ fits a → P

@@ -7,7 +7,6 @@ use Rattle.grammar.specs.declared.symbol.Tested.TheVariants.{Fits as fits, Over 
 use Rattle.grammar.specs.Combinators.{got, bad, Parser, tested, expect, pure}
 use Rattle.grammar.proofs.Reading.{Reads, oneL, pure_l, Lawful}
 use Rattle.grammar.proofs.Cuts.{stuck_same}
-use Rattle.model.specs.Limits.{limit}
 
 pub reads_same : {A : Type 0} (L M : Lang A) (p : Parser A) → ((ts : List Symbol) (a : A) → L ts a → M ts a) → ((ts : List Symbol) (a : A) → M ts a → L ts a) → Reads L p → Reads M p
 reads_same L M p to from r = record {

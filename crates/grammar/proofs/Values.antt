@@ -20,7 +20,7 @@ use Rattle.grammar.specs.declared.symbol.Tested.TheVariants.{Fits as fits}
 use Rattle.grammar.specs.Combinators.{expect}
 use Rattle.grammar.proofs.Reading.{Reads, bindL, pure_l, oneL}
 use Rattle.grammar.specs.Tests.{choose, only, relation}
-use Rattle.grammar.specs.Parser.{term_words, term, value_words, value_first, value_rest, value, operator, bracket, condition}
+use Rattle.grammar.specs.Parser.{term_words, value_words, value_first, value_rest, value, operator, bracket, condition}
 use Rattle.grammar.proofs.Binds.{reads_bind}
 use Rattle.grammar.proofs.Ones.{reads_same, reads_pure, reads_one}
 use Rattle.grammar.proofs.Meets.{In, upto_in, mixed_lawful, mixed_is, words_lawful, words_is, only_is, relation_lawful, relation_is}

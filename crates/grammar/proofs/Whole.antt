@@ -16,7 +16,7 @@ use Rattle.grammar.specs.Grammar as is
 use Rattle.grammar.specs.declared.symbol.Tested.TheVariants.{Fits as fits}
 use Rattle.grammar.proofs.Reading.{bindL, oneL, pure_l, or_moreL, Lines}
 use Rattle.grammar.specs.Tests.{digits, only}
-use Rattle.grammar.specs.Parser.{setting, move, block_word, block_rest, block, line_first, line_rest, line}
+use Rattle.grammar.specs.Parser.{setting, block_word, block_rest, block, line_first, line_rest, line}
 use Rattle.grammar.specs.Axes.{motion_of, moved}
 use Rattle.grammar.proofs.Lines.{lines_bind, lines_same}
 use Rattle.grammar.proofs.Ones.{reads_one}

@@ -1,5 +1,5 @@
 -- Single numbers are followed exactly: operations on them give the single result, and tests say what is so.
-use Rattle.std.specs.Prelude.{◌≡◌, Bool, true, false, ℤ, ◌+ℤ◌, Some, None, int_le}
+use Rattle.std.specs.Prelude.{◌≡◌, true, false, ℤ, ◌+ℤ◌, Some, None, int_le}
 use Rattle.model.specs.declared.range.Range.{Range}
 use Rattle.model.specs.declared.side.Sign.{Sign}
 use Rattle.model.specs.declared.side.Factor.{Factor}
@@ -9,7 +9,6 @@ use Rattle.model.specs.Environments.{Lies, fit, full}
 use Rattle.model.specs.Sides.{signed, scaled}
 use Rattle.model.specs.Values.{apply, compare}
 use Rattle.domain.specs.Lattice.{single}
-use Rattle.numbers.specs.declared.sets.Pair.{Pair}
 use Rattle.numbers.specs.Sets.{NumberSets}
 
 pub record ExactSets {V : Type 0} (a : NumberSets V) : Type 0 where

@@ -5,7 +5,7 @@ use Rattle.model.specs.declared.side.Sign.{Sign}
 use Rattle.model.specs.declared.side.Factor.{Factor}
 use Rattle.model.specs.declared.expression.Op.{Op}
 use Rattle.model.specs.declared.expression.Rel.{Rel}
-use Rattle.model.specs.Environments.{Lies, fit, full}
+use Rattle.model.specs.Environments.{Lies, full}
 use Rattle.model.specs.Sides.{signed, scaled}
 use Rattle.model.specs.Values.{apply, compare}
 use Rattle.domain.specs.Lattice.{Inside, empty}

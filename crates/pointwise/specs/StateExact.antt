@@ -1,7 +1,6 @@
 -- Following a single environment: each operation of the states, and the record of them all.
-use Rattle.std.specs.Prelude.{◌≡◌, ℕ, ◌<◌, ◌≤◌, Bool, true, false, cond, List, ℤ, ◌+ℤ◌, Option, ◌==◌, slice_set, refl}
+use Rattle.std.specs.Prelude.{◌≡◌, ℕ, ◌<◌, ◌≤◌, Bool, true, false, cond, List, ℤ, Option, ◌==◌, slice_set, refl}
 use Rattle.std.proofs.Common.{ap, ap₂, sym, ◌∙◌, subst, arith}
-use Rattle.std.specs.Int.Signed.{le_z}
 use Rattle.std.proofs.lemmas.Bool.{eqb-true}
 use Rattle.std.specs.declared.option.Option.TheVariants as opt
 use Rattle.model.specs.declared.line.Axis.{Axis}
@@ -13,7 +12,7 @@ use Rattle.model.specs.declared.expression.Expression.{Expression}
 use Rattle.model.specs.declared.expression.Expression.TheVariants.{Bare, Apply}
 use Rattle.model.specs.declared.expression.Condition.{Condition}
 use Rattle.model.specs.Environments.{Env, Lies, LegalOf, at, fit, full, named, position}
-use Rattle.model.specs.Sides.{along, axis_register, kept, signed, scaled}
+use Rattle.model.specs.Sides.{along, axis_register, kept}
 use Rattle.model.specs.Values.{register, evaluate, holds, term as number}
 use Rattle.model.specs.Written.{Written, WrittenCondition}
 use Rattle.domain.specs.Lattice.{empty, single}

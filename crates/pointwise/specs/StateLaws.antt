@@ -1,7 +1,7 @@
 -- The laws of a domain hold for states over any number n of registers, from the laws of the sets alone.
-use Rattle.std.specs.Prelude.{◌≡◌, ℕ, ◌<◌, ◌≤◌, Bool, true, false, cond, ◌≢◌, ◌⊎◌, List, length, set, ℤ, pos, Option, ◌==◌, slice_set, refl}
-use Rattle.std.proofs.Common.{ap, sym, ◌∙◌, subst, inl, inr, arith, get_or-set_same, get_or-set_other}
-use Rattle.std.proofs.lemmas.Bool.{eqb-true, eqb-false, cases_Bool}
+use Rattle.std.specs.Prelude.{◌≡◌, ℕ, ◌<◌, ◌≤◌, Bool, true, false, cond, ◌≢◌, ◌⊎◌, List, length, ℤ, pos, Option, ◌==◌, slice_set, refl}
+use Rattle.std.proofs.Common.{ap, sym, ◌∙◌, subst, inr, arith, get_or-set_same, get_or-set_other}
+use Rattle.std.proofs.lemmas.Bool.{eqb-true, eqb-false}
 use Rattle.std.specs.declared.option.Option.TheVariants as opt
 use Rattle.model.specs.declared.line.Axis.{Axis}
 use Rattle.model.specs.declared.line.Axis.TheVariants.{X, Y, Z, U}
@@ -18,15 +18,15 @@ use Rattle.model.specs.Environments.{Env, Lies, LegalOf, at, fit, full, named, p
 use Rattle.model.specs.Sides.{along, axis_register, Holds}
 use Rattle.model.specs.Values.{register, evaluate, holds, term as number}
 use Rattle.model.specs.Written.{Written, WrittenTerm, WrittenCondition}
-use Rattle.domain.specs.Lattice.{Lattice, Lawful, Inside, empty}
+use Rattle.domain.specs.Lattice.{Lawful, Inside, empty}
 use Rattle.domain.specs.Environments.{lies_in, in_lies}
 use Rattle.numbers.specs.declared.sets.Pair.{Pair}
 use Rattle.numbers.specs.Sets.{NumberSets, LawfulSets, HasSome, HasPair}
 use Rattle.pointwise.specs.declared.state.Pointwise.{Pointwise}
 use Rattle.pointwise.specs.declared.state.Pointwise.TheVariants.{None, Each}
-use Rattle.pointwise.specs.States.{of, term, value, sure_value, bounded, means, rank, any, changed, put, narrow, keep, kept_registers, kept_sides}
+use Rattle.pointwise.specs.States.{of, term, value, means, rank, changed, put, narrow, keep, kept_sides}
 use Rattle.pointwise.specs.States.{set as set-state, join, widen, within, sure, shows, range_of, pointwise}
-use Rattle.pointwise.specs.Tables.{build, every}
+use Rattle.pointwise.specs.Tables.{build}
 use Rattle.pointwise.specs.Built.{at_build, every_at, every_fails, sum_le, sum_lt, sum_most}
 
 pub parameter_named : (p : Parameter) → register p < named

@@ -1,34 +1,27 @@
 -- States of sets that are exact on single numbers follow a single environment exactly, over any number n of registers.
-use Rattle.std.specs.Prelude.{◌≡◌, ℕ, suc, ◌<◌, ◌≤◌, Bool, true, false, cond, ◌≢◌, ◌⊎◌, List, length, ℤ, pos, Option, ◌==◌, slice_set, refl}
-use Rattle.std.proofs.Common.{ap, ap₂, sym, ◌∙◌, subst, inl, inr, arith, get_or-set_same, get_or-set_other}
+use Rattle.std.specs.Prelude.{◌≡◌, ℕ, suc, ◌<◌, ◌≤◌, Bool, true, false, cond, ◌≢◌, List, length, ℤ, pos, Option, ◌==◌, slice_set, refl}
+use Rattle.std.proofs.Common.{ap, ap₂, sym, ◌∙◌, subst, arith, get_or-set_same, get_or-set_other}
 use Rattle.std.proofs.lemmas.Bool.{eqb-true, eqb-false}
 use Rattle.std.specs.declared.option.Option.TheVariants as opt
-use Rattle.model.specs.declared.line.Axis.{Axis}
 use Rattle.model.specs.declared.range.Range.{Range}
-use Rattle.model.specs.declared.side.Side.{Side}
 use Rattle.model.specs.declared.expression.Term.{Term}
 use Rattle.model.specs.declared.expression.Term.TheVariants.{Number, Parameter as Held}
 use Rattle.model.specs.declared.expression.Expression.{Expression}
 use Rattle.model.specs.declared.expression.Expression.TheVariants.{Bare, Apply}
-use Rattle.model.specs.declared.expression.Condition.{Condition}
-use Rattle.model.specs.Environments.{Env, Lies, LegalOf, at, fit, full, named, position}
-use Rattle.model.specs.Sides.{along, axis_register, kept}
-use Rattle.model.specs.Values.{register, evaluate, holds, term as number}
-use Rattle.model.specs.Written.{Written, WrittenTerm, WrittenCondition}
-use Rattle.domain.specs.Lattice.{Lattice, empty, single}
-use Rattle.domain.specs.Tracking.{Sharpens, begin, cut, pin, Tracking}
-use Rattle.domain.specs.Environments.{lies_in, in_lies}
+use Rattle.model.specs.Environments.{Env, Lies, LegalOf, at, full, named}
+use Rattle.model.specs.Values.{register, evaluate, term as number}
+use Rattle.model.specs.Written.{Written}
+use Rattle.domain.specs.Lattice.{single}
+use Rattle.domain.specs.Tracking.{Sharpens, begin, cut, pin}
 use Rattle.domain.specs.PairTracks.{sharp_means, lies_single}
-use Rattle.numbers.specs.declared.sets.Pair.{Pair}
 use Rattle.numbers.specs.Sets.{NumberSets, LawfulSets, HasSome}
 use Rattle.numbers.specs.Exact.{ExactSets}
 use Rattle.pointwise.specs.declared.state.Pointwise.{Pointwise}
 use Rattle.pointwise.specs.declared.state.Pointwise.TheVariants.{None, Each}
-use Rattle.pointwise.specs.States.{of, term, value, means, any, changed, put, narrow, keep, kept_sides}
-use Rattle.pointwise.specs.States.{set as set-state, join, sure, shows, range_of, pointwise}
+use Rattle.pointwise.specs.States.{of, term, value, means, changed, put, narrow}
+use Rattle.pointwise.specs.States.{pointwise}
 use Rattle.pointwise.specs.Tracks.{tracks}
-use Rattle.pointwise.specs.Built.{at_build}
-use Rattle.pointwise.specs.StateLaws.{parameter_named, axis_named, axis_at, state_lawful, term_lies, changed_at}
+use Rattle.pointwise.specs.StateLaws.{parameter_named, state_lawful, term_lies, changed_at}
 
 module _ {V : Type 0} (a : NumberSets V) (p : LawfulSets a) (x : ExactSets a) (n : ℕ) (enough : named ≤ n) where
   kept_at : (xs : List V) (r : ℕ) (y : V) (e : Env) (k : ℕ) (b : Bool) → (k == r) ≡ b → y ≡ a.single (at e r) → of a xs k ≡ a.single (at e k) → cond b y (of a xs k) ≡ a.single (at e k)

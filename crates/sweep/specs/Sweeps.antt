@@ -3,7 +3,7 @@
 --
 -- working store: one state for each block, by its number; for a loop the state at its WHILE, for a branch the state that skips it
 -- unchanged: no loop's state had to grow, so the sweep judges
-use Rattle.std.specs.Prelude.{◌≡◌, ℕ, suc, Bool, true, false, cond, ◌&&◌, List, [], ◌∷◌, get_or, set, replicate, Some, None, fold, Option, int_lt, slice_index_or, slice_set}
+use Rattle.std.specs.Prelude.{◌≡◌, ℕ, suc, Bool, true, false, cond, ◌&&◌, List, [], ◌∷◌, get_or, replicate, Some, None, fold, Option, int_lt, slice_index_or, slice_set}
 use Rattle.std.specs.Int.{int_min, int_max}
 use Rattle.model.specs.declared.expression.Condition.{Condition}
 use Rattle.model.specs.declared.expression.Value.{Value}

@@ -1,5 +1,5 @@
 use Rattle.std.proofs.Common.{◌≡◌, ◌<◌, ◌≤◌, length, sym, refl, ap, ◌∙◌, arith, length-set, rules}
-use Rattle.model.specs.Environments.{axes, full}
+use Rattle.model.specs.Environments.{axes}
 use Rattle.sweep.specs.Sweeps.{hull_with}
 use Rattle.certify.proofs.Walks.{hulls_more, hulls_done}
 use Rattle.certify.proofs.axes.hulls_with.Goals as goal

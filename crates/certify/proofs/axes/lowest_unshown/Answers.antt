@@ -1,7 +1,7 @@
 -- The first side that does not hold is the lowest broken one; where none is left, there is none.
 use Rattle.std.proofs.Common.{◌≤◌, length, sym, ◌∙◌, arith}
 use Rattle.std.proofs.lemmas.List.{at_drop_all}
-use Rattle.model.specs.Sides.{kept, lowest}
+use Rattle.model.specs.Sides.{lowest}
 use Rattle.travel.proofs.Broken.{found, passed, spent}
 use Rattle.certify.proofs.axes.lowest_unshown.Goals as goal
 

@@ -1,6 +1,6 @@
 -- The sides before n hold, so the lowest broken one is among the rest.
 use Rattle.std.proofs.Common.{◌≡◌, drop}
-use Rattle.model.specs.Sides.{kept, lowest}
+use Rattle.model.specs.Sides.{lowest}
 use Rattle.certify.proofs.axes.lowest_unshown.Given as goal
 
 abbrev pub invariant-loop-n : goal.invariant-loop-n

@@ -1,4 +1,4 @@
-use Rattle.std.proofs.Common.{◌≡◌, ◌≤◌, length, ◌∙◌, arith}
+use Rattle.std.proofs.Common.{◌≤◌, length, arith}
 use Rattle.model.specs.Blocks.{labels}
 use Rattle.program.specs.Held.{held}
 use Rattle.sweep.specs.Blocks.{blocks}

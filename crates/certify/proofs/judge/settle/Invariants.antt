@@ -1,4 +1,3 @@
-use Rattle.std.proofs.Common.{◌≡◌}
 use Rattle.program.specs.Held.{held}
 use Rattle.sweep.specs.Blocks.{blocks}
 use Rattle.sweep.specs.Ends.{loop_ranks}

@@ -1,10 +1,6 @@
-use Rattle.std.proofs.Common.{◌≡◌, ℕ, suc, ◌+◌, ◌<◌, ◌≤◌, length, get_or, take, sym, ap, ◌∙◌, add-one, arith}
-use Rattle.std.proofs.lemmas.List.{take_all}
-use Rattle.model.specs.declared.line.Line.{Line}
 use Rattle.program.specs.Held.{held}
 use Rattle.sweep.specs.Blocks.{blocks}
-use Rattle.sweep.specs.Sweeps.{Sweep, line_step, sweep, fresh}
-use Rattle.certify.specs.Passes.{sweeping}
+use Rattle.sweep.specs.Sweeps.{fresh}
 use Rattle.certify.proofs.Sweeping.{one_line, all_lines}
 use Rattle.certify.proofs.judge.sweep_once.Goals as goal
 

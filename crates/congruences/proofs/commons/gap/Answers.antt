@@ -1,6 +1,5 @@
 use Rattle.std.proofs.Common.{◌-ℤ◌, nat_abs, ap, ◌∙◌, arith, w64, SFits, rules}
 use Rattle.std.proofs.lemmas.Int.{ints, to_z-of_z}
-use Rattle.model.specs.Values.{same}
 use Rattle.congruences.proofs.Gaps.{gap_below, gap_same}
 use Rattle.congruences.specs.Proper.{bounded}
 use Rattle.congruences.proofs.commons.gap.Goals as goal

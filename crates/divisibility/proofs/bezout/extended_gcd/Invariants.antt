@@ -1,4 +1,4 @@
-use Rattle.std.proofs.Common.{ℕ, ◌^◌, ◌<◌, ℤ, pos, ◌-ℤ◌, ◌*ℤ◌}
+use Rattle.std.proofs.Common.{ℕ, ◌^◌, ◌<◌, pos, ◌-ℤ◌, ◌*ℤ◌}
 use Rattle.divisibility.specs.Multiples.{Multiple}
 use Rattle.divisibility.specs.Gcds.{Gcd}
 use Rattle.divisibility.proofs.bezout.extended_gcd.Given as goal

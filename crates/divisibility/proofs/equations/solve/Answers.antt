@@ -1,4 +1,4 @@
-use Rattle.std.proofs.Common.{◌≡◌, ℕ, ◌/◌, ◌<◌, Some, sym}
+use Rattle.std.proofs.Common.{ℕ, ◌/◌, ◌<◌, Some, sym}
 use borrow.Author.Tests.{both_ways}
 use Rattle.divisibility.specs.Gcds.{Brings}
 use Rattle.divisibility.specs.Equations.{makes}

@@ -1,5 +1,5 @@
 use Rattle.std.proofs.Common.{◌≡◌, ℕ, sym, subst, arith}
-use Rattle.divisibility.specs.Gcds.{Gcd, gcd}
+use Rattle.divisibility.specs.Gcds.{Gcd}
 use Rattle.divisibility.proofs.Gcds.{gcd_is, gcd_only, gcd_step, gcd_zero}
 use Rattle.divisibility.proofs.euclid.gcd.Goals as goal
 

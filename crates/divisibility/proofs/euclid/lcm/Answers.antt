@@ -1,4 +1,4 @@
-use Rattle.std.proofs.Common.{◌≡◌, ℕ, ◌*◌, ◌/◌, ◌≤◌, sym, ap, ◌∙◌, subst, div-le_self, arith}
+use Rattle.std.proofs.Common.{ℕ, ◌*◌, ◌/◌, sym, ap, subst, div-le_self}
 use Rattle.divisibility.specs.Gcds.{Lcm}
 use Rattle.divisibility.proofs.Lcms.{lcm_is, product_mono}
 use Rattle.divisibility.proofs.euclid.lcm.Goals as goal

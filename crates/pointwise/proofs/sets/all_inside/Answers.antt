@@ -1,4 +1,4 @@
-use Rattle.std.proofs.Common.{◌≡◌, ℕ, ◌<◌, Bool, true, false, length, get_or, sym, refl, ap, ◌∙◌, arith}
+use Rattle.std.proofs.Common.{◌≡◌, ◌<◌, true, false, length, get_or, sym, refl, ap, ◌∙◌, arith}
 use Rattle.model.specs.Environments.{registers}
 use Rattle.pointwise.specs.States.{of}
 use Rattle.pointwise.specs.Tables.{every}

@@ -1,4 +1,4 @@
-use Rattle.std.proofs.Common.{◌≡◌, ℕ, ◌<◌, length, get_or, refl, ◌∙◌, arith, length-set}
+use Rattle.std.proofs.Common.{◌≡◌, ◌<◌, length, get_or, refl, ◌∙◌, arith, length-set}
 use Rattle.model.specs.Environments.{registers}
 use Rattle.pointwise.specs.States.{of}
 use Rattle.pointwise.specs.Tables.{build}

@@ -1,6 +1,6 @@
 use Rattle.std.proofs.Common.{sym, ap, ◌∙◌, arith}
 use Rattle.std.proofs.lemmas.Result.{err_from_is_err_and}
-use Rattle.grammar.specs.Axes.{has, count}
+use Rattle.grammar.specs.Axes.{count}
 use Rattle.grammar.specs.Parser.{more_words}
 use Rattle.grammar.specs.Tests.{outcome}
 use Rattle.reader.proofs.Chains.{parses_same}
