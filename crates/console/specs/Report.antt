@@ -5,7 +5,7 @@ use Rattle.std.specs.Borrow.{Bor}
 use Rattle.model.specs.Blocks.{labels, closed}
 use Rattle.model.specs.declared.line.Line.{Line}
 use Rattle.program.specs.Entry.{LineAnswer, taken, turned_down, line_number, line_place, line_answer, lines_after}
-use Rattle.session.specs.Answers.{allow-number, allow-answer}
+use Rattle.session.specs.Answers.{allow_number, allow_answer}
 use Rattle.console.specs.declared.range_line.RangeLine.{RangeLine}
 use Rattle.console.specs.declared.refusal.Refusal.{Refusal}
 use Rattle.console.specs.declared.refusal.Refusal.TheVariants.{Input, RangeText, Allow as OfAllow, Line as OfLine, Open}
@@ -26,7 +26,7 @@ pub data Outcome : Type 0 where
 abbrev pub refusal_number : Refusal → ℕ
 refusal_number Input = 46
 refusal_number RangeText = 13
-refusal_number (OfAllow e) = allow-number e
+refusal_number (OfAllow e) = allow_number e
 refusal_number (OfLine e) = line_number e
 refusal_number Open = 31
 
@@ -58,7 +58,7 @@ is_range (b ∷ bs) = b == 63
 
 -- the number for which a range line is refused, if it is
 abbrev pub allowed_answer : RangeLine → Option ℕ
-allowed_answer a = allow-answer a.parameter a.low a.high
+allowed_answer a = allow_answer a.parameter a.low a.high
 
 abbrev pub by_range : Option RangeLine → Option ℕ
 by_range None = Some 13

@@ -7,7 +7,7 @@ use Rattle.model.specs.Whole.{TheEnding}
 use Rattle.command.specs.Commands.{Meant, bench_gantry, bench_beam, gantry, beam, line, allow, wipe, dry, bad}
 use Rattle.program.specs.Entry.{LineAnswer, taken, turned_down, line_answer}
 use Rattle.runner.specs.Drying.{start}
-use Rattle.session.specs.Answers.{allow-answer, dry-answer}
+use Rattle.session.specs.Answers.{allow_answer, dry_answer}
 use Rattle.session.specs.Memory.{Memory, memory, blank, after_line, after_allow}
 use Rattle.travel.specs.declared.beam.Beam.{Beam}
 use Rattle.travel.specs.declared.gantry.Gantry.{Gantry}
@@ -19,7 +19,7 @@ use Rattle.either_travel.specs.Eithers.{either}
 use Rattle.travel.specs.Gantries.{gantry_sides, GantryMade}
 use Rattle.travel.specs.Refusals.{travel_number}
 use Rattle.session.specs.declared.session.Session.{Session}
-use Rattle.desk.specs.Answers.{Said, done, refused, came, bad-at}
+use Rattle.desk.specs.Answers.{Said, done, refused, came, bad_at}
 
 abbrev pub by_line : LineAnswer → Said
 by_line taken = done
@@ -42,14 +42,14 @@ Dries ss h m vs k None a = (o : Ending) × (a ≡ came o) × TheEnding m.program
 -- a call of a session on a travel with these sides and this home; n is the number of the command
 abbrev pub Calls : List Side → Position → Memory → ℕ → Meant → Said → Memory → Type 0
 Calls ss h m n (line s) a after = (a ≡ by_line (line_answer m.program s)) × (after ≡ after_line m s)
-Calls ss h m n (allow p lo hi) a after = (a ≡ by_number (allow-answer (natural p) lo hi)) × (after ≡ after_allow m (natural p) lo hi)
+Calls ss h m n (allow p lo hi) a after = (a ≡ by_number (allow_answer (natural p) lo hi)) × (after ≡ after_allow m (natural p) lo hi)
 Calls ss h m n wipe a after = (a ≡ done) × (after ≡ blank)
-Calls ss h m n (dry vs k) a after = Dries ss h m vs k (dry-answer m.program vs k) a × (after ≡ m)
-Calls ss h m n bench_gantry a after = (a ≡ bad-at n) × (after ≡ m)
-Calls ss h m n bench_beam a after = (a ≡ bad-at n) × (after ≡ m)
-Calls ss h m n (gantry lo hi at) a after = (a ≡ bad-at n) × (after ≡ m)
-Calls ss h m n (beam lo hi at gap) a after = (a ≡ bad-at n) × (after ≡ m)
-Calls ss h m n bad a after = (a ≡ bad-at n) × (after ≡ m)
+Calls ss h m n (dry vs k) a after = Dries ss h m vs k (dry_answer m.program vs k) a × (after ≡ m)
+Calls ss h m n bench_gantry a after = (a ≡ bad_at n) × (after ≡ m)
+Calls ss h m n bench_beam a after = (a ≡ bad_at n) × (after ≡ m)
+Calls ss h m n (gantry lo hi at) a after = (a ≡ bad_at n) × (after ≡ m)
+Calls ss h m n (beam lo hi at gap) a after = (a ≡ bad_at n) × (after ≡ m)
+Calls ss h m n bad a after = (a ≡ bad_at n) × (after ≡ m)
 
 -- ---- tables
 -- the tables of the examples

@@ -1,6 +1,6 @@
 // What a command is answered, and its text.
 ghost use Rattle.std.specs.Prelude.{◌≡◌, Some};
-ghost use Rattle.desk.specs.Answers.{refusal_number, refusal_place, said, said-text};
+ghost use Rattle.desk.specs.Answers.{refusal_number, refusal_place, said, said_text};
 
 use model::ending::{Cause, Ending, Failure};
 use program::refusal::LineRefusal;
@@ -49,7 +49,7 @@ pub enum Answer {
 }
 
 impl fmt::Display for Answer {
-    ghost output = { λ a. Some (said-text (said a)) };
+    ghost output = { λ a. Some (said_text (said a)) };
 
     fn fmt<W: fmt::Write>(&self, f: &mut fmt::Formatter<W>) -> fmt::Result {
         match *self {

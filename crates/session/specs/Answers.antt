@@ -11,48 +11,48 @@ use Rattle.session.specs.declared.refusal.AllowRefusal.TheVariants.{Parameter, R
 use Rattle.session.specs.declared.refusal.DryRefusal.{DryRefusal}
 use Rattle.session.specs.declared.refusal.DryRefusal.TheVariants.{Open, Steps, Value}
 
-abbrev pub allow-number : AllowRefusal → ℕ
-allow-number Parameter = 26
-allow-number OfRange = 27
+abbrev pub allow_number : AllowRefusal → ℕ
+allow_number Parameter = 26
+allow_number OfRange = 27
 
-abbrev pub dry-number : DryRefusal → ℕ
-dry-number Open = 31
-dry-number Steps = 44
-dry-number Value = 45
+abbrev pub dry_number : DryRefusal → ℕ
+dry_number Open = 31
+dry_number Steps = 44
+dry_number Value = 45
 
 -- ---- allow
 -- a result of the code by the number of its refusal, if it is one
-abbrev pub allow-said : Result (Unit {0}) AllowRefusal → Option ℕ
-allow-said (Ok u) = None
-allow-said (Err e) = Some (allow-number e)
+abbrev pub allow_said : Result (Unit {0}) AllowRefusal → Option ℕ
+allow_said (Ok u) = None
+allow_said (Err e) = Some (allow_number e)
 
 -- the parameter is one of six, and the range is one of numbers within the limit
-abbrev pub allow-answer : ℕ → ℤ → ℤ → Option ℕ
-allow-answer n lo hi = cond (nat_lt n 1 || nat_lt parameters n) (Some 26) (cond (int_lt hi lo || (int_lt lo (neg_ℤ (pos limit)) || int_lt (pos limit) hi)) (Some 27) None)
+abbrev pub allow_answer : ℕ → ℤ → ℤ → Option ℕ
+allow_answer n lo hi = cond (nat_lt n 1 || nat_lt parameters n) (Some 26) (cond (int_lt hi lo || (int_lt lo (neg_ℤ (pos limit)) || int_lt (pos limit) hi)) (Some 27) None)
 
 -- before any range is allowed
-abbrev pub no-ranges : List Range
-no-ranges = replicate parameters (record { lo = pos 0; hi = pos 0 })
+abbrev pub no_ranges : List Range
+no_ranges = replicate parameters (record { lo = pos 0; hi = pos 0 })
 
-abbrev pub ranges-by : Option ℕ → List Range → ℕ → Range → List Range
-ranges-by (Some k) rs n r = rs
-ranges-by None rs n r = slice_set rs (n - 1) r
+abbrev pub ranges_by : Option ℕ → List Range → ℕ → Range → List Range
+ranges_by (Some k) rs n r = rs
+ranges_by None rs n r = slice_set rs (n - 1) r
 
-abbrev pub ranges-after : List Range → ℕ → ℤ → ℤ → List Range
-ranges-after rs n lo hi = ranges-by (allow-answer n lo hi) rs n (record { lo = lo; hi = hi })
+abbrev pub ranges_after : List Range → ℕ → ℤ → ℤ → List Range
+ranges_after rs n lo hi = ranges_by (allow_answer n lo hi) rs n (record { lo = lo; hi = hi })
 
 -- ---- dry
-abbrev pub max-steps : ℕ
-max-steps = 100000
+abbrev pub max_steps : ℕ
+max_steps = 100000
 
 abbrev pub all_fit : List ℤ → Bool
 all_fit [] = true
 all_fit (v ∷ vs) = fit v && all_fit vs
 
-abbrev pub dry-said : Result Ending DryRefusal → Option ℕ
-dry-said (Ok o) = None
-dry-said (Err e) = Some (dry-number e)
+abbrev pub dry_said : Result Ending DryRefusal → Option ℕ
+dry_said (Ok o) = None
+dry_said (Err e) = Some (dry_number e)
 
 -- the program is closed, the steps are not too many, and each value is within the limit
-abbrev pub dry-answer : List Line → List ℤ → ℕ → Option ℕ
-dry-answer lines vs steps = cond (closed lines) (cond (nat_le steps max-steps) (cond (all_fit vs) None (Some 45)) (Some 44)) (Some 31)
+abbrev pub dry_answer : List Line → List ℤ → ℕ → Option ℕ
+dry_answer lines vs steps = cond (closed lines) (cond (nat_le steps max_steps) (cond (all_fit vs) None (Some 45)) (Some 44)) (Some 31)

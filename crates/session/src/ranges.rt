@@ -1,7 +1,7 @@
 // The allowed range of each parameter.
 ghost use Rattle.std.specs.Prelude.{◌≡◌, ◌≤◌, length, OnOk};
 ghost use Rattle.model.specs.Environments.{parameters};
-ghost use Rattle.session.specs.Answers.{allow-said, allow-answer};
+ghost use Rattle.session.specs.Answers.{allow_said, allow_answer};
 
 use crate::refusal::AllowRefusal;
 use model::expression::LIMIT;
@@ -18,7 +18,7 @@ pub struct Ranges {
 
 // Whether the parameter, from 1, may be allowed the range.
 pub fn check_range(parameter: u32, lo: i32, hi: i32) -> Result<(), AllowRefusal>
-    ensures says { allow-said result ≡ allow-answer parameter lo hi }
+    ensures says { allow_said result ≡ allow_answer parameter lo hi }
     ensures known { OnOk result ((1 ≤ parameter) × (parameter ≤ parameters)) }
 {
     if parameter < 1 || parameter > PARAMETERS as u32 {

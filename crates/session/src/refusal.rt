@@ -1,6 +1,6 @@
 // Why a call is refused.
 ghost use Rattle.std.specs.Prelude.{◌≡◌};
-ghost use Rattle.session.specs.Answers.{allow-number, dry-number};
+ghost use Rattle.session.specs.Answers.{allow_number, dry_number};
 
 #[derive(Clone, Copy)]
 pub enum AllowRefusal {
@@ -12,7 +12,7 @@ pub enum AllowRefusal {
 
 impl AllowRefusal {
     pub fn number(self) -> u32
-        ensures { result ≡ allow-number self }
+        ensures { result ≡ allow_number self }
     {
         match self {
             AllowRefusal::Parameter => 26,
@@ -33,7 +33,7 @@ pub enum DryRefusal {
 
 impl DryRefusal {
     pub fn number(self) -> u32
-        ensures { result ≡ dry-number self }
+        ensures { result ≡ dry_number self }
     {
         match self {
             DryRefusal::Open => 31,

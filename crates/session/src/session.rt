@@ -4,7 +4,7 @@ ghost use Rattle.model.specs.Environments.{fit};
 ghost use Rattle.model.specs.Whole.{TheEnding};
 ghost use Rattle.program.specs.Entry.{line_said, line_answer};
 ghost use Rattle.runner.specs.Drying.{start};
-ghost use Rattle.session.specs.Answers.{all_fit, allow-said, allow-answer, dry-said, dry-answer};
+ghost use Rattle.session.specs.Answers.{all_fit, allow_said, allow_answer, dry_said, dry_answer};
 ghost use Rattle.session.specs.Memory.{memory, blank, after_line, after_allow};
 
 use crate::ranges::Ranges;
@@ -69,7 +69,7 @@ impl<T: Travel> Session<T> {
 
     // Allows a parameter a range.
     pub fn allow(&mut self, parameter: u32, lo: i32, hi: i32) -> Result<(), AllowRefusal>
-        ensures says { allow-said result ≡ allow-answer parameter lo hi }
+        ensures says { allow_said result ≡ allow_answer parameter lo hi }
         ensures does { memory self.new ≡ after_allow (memory self.old) parameter lo hi }
         ensures travel { self.new.travel ≡ self.old.travel }
         ensures untouched { is_ok result ≡ false → self.new ≡ self.old }
@@ -88,7 +88,7 @@ impl<T: Travel> Session<T> {
 
     // What at most so many steps from home, with these values, would come to.
     pub fn dry(&self, values: [i32; PARAMETERS], steps: u32) -> Result<Ending, DryRefusal>
-        ensures says { dry-said result ≡ dry-answer (memory self.now).program values steps }
+        ensures says { dry_said result ≡ dry_answer (memory self.now).program values steps }
         ensures ending { IfOk result (TheEnding (memory self.now).program (T.sides self.now.travel) steps 0 (start (T.origin self.now.travel) values)) }
     {
         if !self.program.is_closed() {

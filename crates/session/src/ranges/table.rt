@@ -1,6 +1,6 @@
 // The table of allowed ranges.
 ghost use Rattle.std.specs.Prelude.{◌≡◌, false, is_ok};
-ghost use Rattle.session.specs.Answers.{no-ranges, allow-said, allow-answer, ranges-after};
+ghost use Rattle.session.specs.Answers.{no_ranges, allow_said, allow_answer, ranges_after};
 
 use crate::ranges::{Ranges, check_range};
 use crate::refusal::AllowRefusal;
@@ -10,7 +10,7 @@ use model::register::PARAMETERS;
 impl Ranges {
     // Each parameter may be 0 alone.
     pub fn new() -> Ranges
-        ensures { result.each ≡ no-ranges }
+        ensures { result.each ≡ no_ranges }
     {
         Ranges {
             each: [Range { lo: 0, hi: 0 }; PARAMETERS],
@@ -19,8 +19,8 @@ impl Ranges {
 
     // Allows the parameter, from 1, a range, or says why not and changes nothing.
     pub fn allow(&mut self, parameter: u32, lo: i32, hi: i32) -> Result<(), AllowRefusal>
-        ensures says { allow-said result ≡ allow-answer parameter lo hi }
-        ensures does { self.new.each ≡ ranges-after self.old.each parameter lo hi }
+        ensures says { allow_said result ≡ allow_answer parameter lo hi }
+        ensures does { self.new.each ≡ ranges_after self.old.each parameter lo hi }
         ensures same { is_ok result ≡ false → self.new ≡ self.old }
     {
         check_range(parameter, lo, hi)?;
