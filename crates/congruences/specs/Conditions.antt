@@ -3,7 +3,7 @@ use Rattle.std.specs.Prelude.{Bool, cond, not, ◌&&◌, Some, None, Option}
 use Rattle.model.specs.declared.expression.Rel.{Rel}
 use Rattle.model.specs.declared.expression.Rel.TheVariants.{Eq, Ne, Lt, Le, Gt, Ge}
 use Rattle.model.specs.Values.{compare}
-use Rattle.numbers.specs.declared.sets.Pair.{Pair}
+use Rattle.number_sets.specs.declared.sets.Pair.{Pair}
 use Rattle.congruences.specs.Commons.{common}
 use Rattle.congruences.specs.Singles.{alone}
 use Rattle.congruences.specs.declared.congruence.Congruence.{Congruence}

@@ -13,8 +13,8 @@ use Rattle.model.specs.declared.expression.Rel.TheVariants.{Eq, Ge, Gt, Le, Lt, 
 use Rattle.model.specs.declared.side.Factor.{Factor}
 use Rattle.model.specs.declared.side.Factor.TheVariants.{Minus, Plus, Zero}
 use Rattle.model.specs.declared.side.Sign.{Sign}
-use Rattle.numbers.specs.Exact.{ExactSets}
-use Rattle.numbers.specs.declared.sets.Pair.{Pair}
+use Rattle.number_sets.specs.Exact.{ExactSets}
+use Rattle.number_sets.specs.declared.sets.Pair.{Pair}
 use Rattle.divisibility.specs.Gcds.{gcd}
 use Rattle.divisibility.specs.Multiples.{agrees}
 use Rattle.divisibility.proofs.Divides.{agrees_from, agrees_yes}

@@ -7,7 +7,7 @@ use Rattle.model.specs.Environments.{Lies, full}
 use Rattle.model.specs.Values.{compare, same}
 use Rattle.model.specs.declared.expression.Rel.{Rel}
 use Rattle.model.specs.declared.expression.Rel.TheVariants.{Eq, Ge, Gt, Le, Lt, Ne}
-use Rattle.numbers.specs.Sets.{HasPair}
+use Rattle.number_sets.specs.Sets.{HasPair}
 use Rattle.divisibility.specs.Multiples.{Multiple}
 use Rattle.congruences.specs.Commons.{common}
 use Rattle.congruences.specs.Conditions.{doubled, fails, kept, unless}

@@ -1,5 +1,5 @@
 -- Congruences as sets of numbers for one register.
-use Rattle.numbers.specs.Sets.{NumberSets}
+use Rattle.number_sets.specs.Sets.{NumberSets}
 use Rattle.congruences.specs.Members.{In}
 use Rattle.congruences.specs.Singles.{whole, single}
 use Rattle.congruences.specs.Results.{results, fits}

@@ -5,7 +5,7 @@ ghost use Rattle.congruences.specs.Conditions.{fails, doubled, unless, kept};
 
 use crate::congruence::Congruence;
 use model::expression::Rel;
-use numbers::sets::Pair;
+use number_sets::sets::Pair;
 
 fn compare(rel: Rel, u: i64, v: i64) -> bool
     ensures { result ≡ compare rel u v }

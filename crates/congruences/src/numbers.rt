@@ -7,7 +7,7 @@ use crate::congruence::Congruence;
 use model::expression::{LIMIT, Op, Rel};
 use model::range::Range;
 use model::side::{Factor, Sign};
-use numbers::sets::{NumberSet, Pair};
+use number_sets::sets::{NumberSet, Pair};
 
 impl NumberSet for Congruence {
     ghost sets = { congruences };

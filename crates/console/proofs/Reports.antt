@@ -3,7 +3,7 @@ use Rattle.std.proofs.Common.{◌≡◌, ℕ, ◌+◌, ◌<◌, ◌≤◌, Bool,
 use lib.Signed.{lt_z}
 use Rattle.std.proofs.lemmas.Bool.Decides.{nat_tests}
 use Rattle.std.proofs.lemmas.Int.{ints}
-use Rattle.std.specs.List.{AllByRecursion as All}
+use Rattle.std.specs.List.{AllByRecursion}
 use Rattle.model.specs.Limits.{limit}
 use Rattle.model.specs.Blocks.{labels, closed}
 use Rattle.model.specs.declared.line.Line.{Line}
@@ -73,8 +73,8 @@ good_range l (a, range d xs ys lo hi p q x y, k, o) = refl
 
 -- ---- what is left after the range lines
 abbrev SkipIs : List (List ℕ) → Skipped → Type 0
-SkipIs ls (rest ps) = (rs : List (List ℕ)) × (ls ≡ rs ++ ps) × All Good rs × Begun ps
-SkipIs ls (stopped k) = (rs : List (List ℕ)) × (l : List ℕ) × (ms : List (List ℕ)) × (ls ≡ rs ++ (l ∷ ms)) × All Good rs × (is_range l ≡ true) × Bad l k
+SkipIs ls (rest ps) = (rs : List (List ℕ)) × (ls ≡ rs ++ ps) × AllByRecursion Good rs × Begun ps
+SkipIs ls (stopped k) = (rs : List (List ℕ)) × (l : List ℕ) × (ms : List (List ℕ)) × (ls ≡ rs ++ (l ∷ ms)) × AllByRecursion Good rs × (is_range l ≡ true) × Bad l k
 
 one_more : (l : List ℕ) (ls : List (List ℕ)) (s : Skipped) → Good l → SkipIs ls s → SkipIs (l ∷ ls) s
 one_more l ls (rest ps) g (rs, e, all, b) = (l ∷ rs, ap (λ x. l ∷ x) e, (g, all), b)
@@ -93,7 +93,7 @@ skip_is (l ∷ ls) = go (is_range l) refl (range_answer l) (range_says l (range_
 pub stopped_here : (ls ms ns : List (List ℕ)) (l : List ℕ) (k : ℕ) → skip ls ≡ skip ms → ms ≡ l ∷ ns → is_range l ≡ true → range_answer l ≡ Some k → skip ls ≡ stopped k
 stopped_here ls ms ns l k e f q a = e ∙ ap skip f ∙ (λ i. cond (q i) (after_range (a i) (skip ns)) (rest (l ∷ ns)))
 
-skip_good : (rs ms : List (List ℕ)) → All Good rs → skip (rs ++ ms) ≡ skip ms
+skip_good : (rs ms : List (List ℕ)) → AllByRecursion Good rs → skip (rs ++ ms) ≡ skip ms
 skip_good [] ms all = refl
 skip_good (r ∷ rs) ms (g, all) = (λ i. cond (good_range r g i) (after_range (good_answer r g i) (skip (rs ++ ms))) (rest (r ∷ (rs ++ ms)))) ∙ skip_good rs ms all
 
@@ -127,11 +127,11 @@ takes_on n xs ys ps ms (one {l = l} {ls = ls} e t) =
 
 -- ---- the report
 module _ (bs : List ℕ) (short : length bs ≤ max_input) where
-  ends_is : (rs ps : List (List ℕ)) (ys : List Line) (b : Bool) → LinesAre bs (rs ++ ps) → All Good rs → Begun ps → Takes [] ps ys → closed ys ≡ b → Reports bs (cond b (read_all (length ys) (length (labels ys))) (refused_at 0 31 0))
+  ends_is : (rs ps : List (List ℕ)) (ys : List Line) (b : Bool) → LinesAre bs (rs ++ ps) → AllByRecursion Good rs → Begun ps → Takes [] ps ys → closed ys ≡ b → Reports bs (cond b (read_all (length ys) (length (labels ys))) (refused_at 0 31 0))
   ends_is rs ps ys true lines all b t e = let long : length ps ≡ length ys = omega (arith, takes_longer [] ys ps t) in subst (λ n. Reports bs (read_all n (length (labels ys)))) long (whole rs ps ys short lines all b t e)
   ends_is rs ps ys false lines all b t e = left_open rs ps ys short lines all b t e
 
-  program_is : (rs ps : List (List ℕ)) (o : Outcome) → LinesAre bs (rs ++ ps) → All Good rs → Begun ps → Going 1 [] ps o → Reports bs o
+  program_is : (rs ps : List (List ℕ)) (o : Outcome) → LinesAre bs (rs ++ ps) → AllByRecursion Good rs → Begun ps → Going 1 [] ps o → Reports bs o
   unfolding Going
   program_is rs ps o lines all b (inl (ys, t, f)) = subst (Reports bs) (sym f) (ends_is rs ps ys (closed ys) lines all b t refl)
   program_is rs ps o lines all b (inr (qs, l, ms, ys, k, p, c, t, a, f)) =
@@ -157,16 +157,16 @@ short_report bs s h e =
     sym (ap (λ v. cond v (refused_at 0 46 0) (by_skipped (skip (lines_of bs)))) t ∙ ap by_skipped e)
 
 -- the range lines are passed over
-past_ranges : (bs : List ℕ) (rs ms : List (List ℕ)) → LinesAre bs (rs ++ ms) → All Good rs → skip (lines_of bs) ≡ skip ms
+past_ranges : (bs : List ℕ) (rs ms : List (List ℕ)) → LinesAre bs (rs ++ ms) → AllByRecursion Good rs → skip (lines_of bs) ≡ skip ms
 past_ranges bs rs ms lines all = ap skip (sym (no_others bs (rs ++ ms) lines)) ∙ skip_good rs ms all
 
-past_program : (bs : List ℕ) (rs ps ms : List (List ℕ)) (xs : List Line) → length bs ≤ max_input → LinesAre bs (rs ++ (ps ++ ms)) → All Good rs → Begun (ps ++ ms) → Takes [] ps xs → program_outcome (1 + length ps) xs ms ≡ report_of bs
+past_program : (bs : List ℕ) (rs ps ms : List (List ℕ)) (xs : List Line) → length bs ≤ max_input → LinesAre bs (rs ++ (ps ++ ms)) → AllByRecursion Good rs → Begun (ps ++ ms) → Takes [] ps xs → program_outcome (1 + length ps) xs ms ≡ report_of bs
 past_program bs rs ps ms xs short lines all b t = sym (takes_on 1 [] xs ps ms t) ∙ short_report bs (rest (ps ++ ms)) short (past_ranges bs rs (ps ++ ms) lines all ∙ skip_begun (ps ++ ms) b)
 
 no_more : (bs : List ℕ) (rs ps : List (List ℕ)) → LinesAre bs (rs ++ ps) → LinesAre bs (rs ++ (ps ++ []))
 no_more bs rs ps lines = subst (λ x. LinesAre bs (rs ++ x)) (sym (append-nil ps)) lines
 
-at_end : (bs : List ℕ) (rs ps : List (List ℕ)) (xs : List Line) → length bs ≤ max_input → LinesAre bs (rs ++ ps) → All Good rs → Begun ps → Takes [] ps xs → ending xs ≡ report_of bs
+at_end : (bs : List ℕ) (rs ps : List (List ℕ)) (xs : List Line) → length bs ≤ max_input → LinesAre bs (rs ++ ps) → AllByRecursion Good rs → Begun ps → Takes [] ps xs → ending xs ≡ report_of bs
 at_end bs rs ps xs short lines all b t = past_program bs rs ps [] xs short (no_more bs rs ps lines) all (subst Begun (sym (append-nil ps)) b) t
 
 one_report : (bs : List ℕ) (o : Outcome) → Reports bs o → o ≡ report_of bs

@@ -1,7 +1,7 @@
 -- The law of a report. The lines of an input are range lines and then the program; the first line that is refused is
 -- reported, or a block that is left open, or how much was read.
 use Rattle.std.specs.Prelude.{◌≡◌, ℕ, suc, ◌<◌, ◌≤◌, true, false, List, [], ◌∷◌, ◌++◌, length, pos, neg_ℤ, ◌≤ℤ◌, Option}
-use Rattle.std.specs.List.{AllByRecursion as All}
+use Rattle.std.specs.List.{AllByRecursion}
 use Rattle.model.specs.Limits.{limit}
 use Rattle.model.specs.Blocks.{labels, closed}
 use Rattle.model.specs.declared.line.Line.{Line}
@@ -41,11 +41,11 @@ pub data Takes : List Line → List (List ℕ) → List Line → Type 0 where
 
 pub data Reports (bs : List ℕ) : Outcome → Type 0 where
   too_long : max_input < length bs → Reports bs (refused_at 0 46 0)
-  bad_range : (rs ls : List (List ℕ)) (l : List ℕ) (k : ℕ) → length bs ≤ max_input → LinesAre bs (rs ++ (l ∷ ls)) → All Good rs → is_range l ≡ true → Bad l k → Reports bs (refused_at 0 k 0)
-  bad_line : (rs ps ls : List (List ℕ)) (l : List ℕ) (xs : List Line) (k : ℕ) (p : Option ℕ) → length bs ≤ max_input → LinesAre bs (rs ++ (ps ++ (l ∷ ls))) → All Good rs → Begun (ps ++ (l ∷ ls)) →
+  bad_range : (rs ls : List (List ℕ)) (l : List ℕ) (k : ℕ) → length bs ≤ max_input → LinesAre bs (rs ++ (l ∷ ls)) → AllByRecursion Good rs → is_range l ≡ true → Bad l k → Reports bs (refused_at 0 k 0)
+  bad_line : (rs ps ls : List (List ℕ)) (l : List ℕ) (xs : List Line) (k : ℕ) (p : Option ℕ) → length bs ≤ max_input → LinesAre bs (rs ++ (ps ++ (l ∷ ls))) → AllByRecursion Good rs → Begun (ps ++ (l ∷ ls)) →
       Takes [] ps xs → line_answer xs l ≡ turned_down k p → Reports bs (refused_at (suc (length ps)) k (or_zero p))
-  left_open : (rs ps : List (List ℕ)) (xs : List Line) → length bs ≤ max_input → LinesAre bs (rs ++ ps) → All Good rs → Begun ps → Takes [] ps xs → closed xs ≡ false → Reports bs (refused_at 0 31 0)
-  whole : (rs ps : List (List ℕ)) (xs : List Line) → length bs ≤ max_input → LinesAre bs (rs ++ ps) → All Good rs → Begun ps → Takes [] ps xs → closed xs ≡ true → Reports bs (read_all (length ps) (length (labels xs)))
+  left_open : (rs ps : List (List ℕ)) (xs : List Line) → length bs ≤ max_input → LinesAre bs (rs ++ ps) → AllByRecursion Good rs → Begun ps → Takes [] ps xs → closed xs ≡ false → Reports bs (refused_at 0 31 0)
+  whole : (rs ps : List (List ℕ)) (xs : List Line) → length bs ≤ max_input → LinesAre bs (rs ++ ps) → AllByRecursion Good rs → Begun ps → Takes [] ps xs → closed xs ≡ true → Reports bs (read_all (length ps) (length (labels xs)))
 
 -- o is a report on the input, and there is no other
 pub record TheReport (bs : List ℕ) (o : Outcome) : Type 0 where

@@ -6,8 +6,8 @@ use model::expression::{Condition, Expression, LIMIT, Op, Parameter, Rel, Term};
 use model::line::Axis;
 use model::range::Range;
 use model::side::{Factor, Side, Sign};
-use pointwise::congruences::Congruences;
-use pointwise::intervals::Intervals;
+use pointwise::congruence_states::Congruences;
+use pointwise::interval_states::Intervals;
 use std::process::Abort;
 
 type Both = Product<Intervals, Congruences>;

@@ -113,3 +113,7 @@ fickle_lawful n = record {
   widen_le = widen_le;
   widen_lt = widen_lt;
 }
+
+-- what follows from a claim that is not made
+pub not_claimed : {P : Type 0} → false ≡ true → P
+not_claimed h = absurd (let z : ◌≡◌ {A = ℕ} 0 1 = cc in omega arith)

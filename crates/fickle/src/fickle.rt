@@ -1,10 +1,9 @@
 // It tells nothing but that there is no environment, and its answers go to and fro: narrowing a state twice by the same range
 // gives the state back, and one state is not within another of the same meaning.
-ghost use Rattle.std.specs.Prelude.{◌≡◌, ℕ, false};
+ghost use Rattle.std.specs.Prelude.{false};
 ghost use Rattle.fickle.specs.Fickle.{fickle, whole_or_empty, never};
 ghost use Rattle.model.specs.Environments.{registers};
-ghost use Rattle.fickle.specs.FickleLaws.{fickle_lawful};
-ghost use Rattle.std.proofs.Common.{arith};
+ghost use Rattle.fickle.specs.FickleLaws.{fickle_lawful, not_claimed};
 
 use domain::domain::Domain;
 use model::expression::{Condition, Expression};
@@ -42,9 +41,9 @@ impl Domain for Fickle {
 
     ghost lawful = { fickle_lawful registers };
 
-    ghost nothing = { λ h. absurd (let z : ◌≡◌ {A = ℕ} 0 1 = cc in omega arith) };
+    ghost nothing = { λ h. not_claimed h };
 
-    ghost tracking = { λ h. absurd (let z : ◌≡◌ {A = ℕ} 0 1 = cc in omega arith) };
+    ghost tracking = { λ h. not_claimed h };
 
     fn rank_of_none() -> u64 {
         Self::NONE_RANK

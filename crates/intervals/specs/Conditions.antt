@@ -4,7 +4,7 @@ use Rattle.std.specs.Int.{int_min, int_max}
 use Rattle.model.specs.Values.{same}
 use Rattle.model.specs.declared.expression.Rel.{Rel}
 use Rattle.model.specs.declared.expression.Rel.TheVariants.{Eq, Ne, Lt, Le, Gt, Ge}
-use Rattle.numbers.specs.declared.sets.Pair.{Pair}
+use Rattle.number_sets.specs.declared.sets.Pair.{Pair}
 use Rattle.intervals.specs.Made.{made}
 use Rattle.intervals.specs.Spans.{meet}
 use Rattle.intervals.specs.declared.interval.Interval.{Interval}

@@ -7,8 +7,8 @@ use Rattle.std.specs.Int.{int_min, int_max}
 use Rattle.model.specs.Values.{same, compare}
 use Rattle.model.specs.declared.expression.Rel.{Rel}
 use Rattle.model.specs.declared.expression.Rel.TheVariants.{Eq, Ne, Lt, Le, Gt, Ge}
-use Rattle.numbers.specs.declared.sets.Pair.{Pair}
-use Rattle.numbers.specs.Sets.{HasSome, HasPair}
+use Rattle.number_sets.specs.declared.sets.Pair.{Pair}
+use Rattle.number_sets.specs.Sets.{HasSome, HasPair}
 use Rattle.intervals.specs.Intervals.{intervals}
 use Rattle.intervals.specs.Made.{made, In, yes_le}
 use Rattle.intervals.specs.Conditions.{both, turned_all, below, up_from, down_from, except, kept}

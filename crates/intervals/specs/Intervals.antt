@@ -1,5 +1,5 @@
 -- Intervals as sets of numbers.
-use Rattle.numbers.specs.Sets.{NumberSets}
+use Rattle.number_sets.specs.Sets.{NumberSets}
 use Rattle.intervals.specs.Made.{In}
 use Rattle.intervals.specs.Singles.{whole, single}
 use Rattle.intervals.specs.Spans.{hull, meet, inside}

@@ -3,8 +3,8 @@ use Rattle.std.specs.Prelude.{ℤ}
 use Rattle.std.proofs.Common.{arith}
 use Rattle.std.proofs.lemmas.Int.{ints}
 use Rattle.model.specs.Environments.{Lies, full}
-use Rattle.numbers.specs.Sets.{LawfulSets}
-use Rattle.numbers.specs.Exact.{ExactSets}
+use Rattle.number_sets.specs.Sets.{LawfulSets}
+use Rattle.number_sets.specs.Exact.{ExactSets}
 use Rattle.intervals.specs.Made.{In}
 use Rattle.intervals.specs.Singles.{single}
 use Rattle.intervals.specs.Intervals.{intervals}

@@ -4,7 +4,7 @@ use Rattle.std.proofs.Common.{ap, ap₂, sym, ◌∙◌, arith}
 use Rattle.std.proofs.lemmas.Int.{ints}
 use Rattle.std.proofs.lemmas.Bool.{both_ways, and_left, and_right}
 use Rattle.model.specs.Limits.{limit}
-use Rattle.numbers.specs.Sets.{HasSome}
+use Rattle.number_sets.specs.Sets.{HasSome}
 use Rattle.intervals.specs.Intervals.{intervals}
 use Rattle.intervals.specs.Made.{proper, pick, made}
 use Rattle.intervals.specs.declared.interval.Interval.{Interval}

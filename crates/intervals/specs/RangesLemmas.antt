@@ -6,7 +6,7 @@ use Rattle.std.specs.Int.{int_min, int_max}
 use Rattle.model.specs.Environments.{Lies, full}
 use Rattle.model.specs.declared.range.Range.{Range}
 use Rattle.domain.specs.Lattice.{Inside, empty, single as only}
-use Rattle.numbers.specs.Sets.{HasSome}
+use Rattle.number_sets.specs.Sets.{HasSome}
 use Rattle.intervals.specs.Intervals.{intervals}
 use Rattle.intervals.specs.Made.{In}
 use Rattle.intervals.specs.Singles.{single}

@@ -8,7 +8,7 @@ use Rattle.model.specs.Limits.{limit}
 use Rattle.model.specs.Values.{apply}
 use Rattle.model.specs.declared.expression.Op.{Op}
 use Rattle.model.specs.declared.expression.Op.TheVariants.{Add, Sub, Mul}
-use Rattle.numbers.specs.Sets.{HasSome}
+use Rattle.number_sets.specs.Sets.{HasSome}
 use Rattle.intervals.specs.Intervals.{intervals}
 use Rattle.intervals.specs.Made.{In, yes_le}
 use Rattle.intervals.specs.Results.{ends, cut, fits}

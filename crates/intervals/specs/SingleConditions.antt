@@ -8,7 +8,7 @@ use Rattle.model.specs.Environments.{Lies, full}
 use Rattle.model.specs.Values.{same, compare}
 use Rattle.model.specs.declared.expression.Rel.{Rel}
 use Rattle.model.specs.declared.expression.Rel.TheVariants.{Eq, Ne, Lt, Le, Gt, Ge}
-use Rattle.numbers.specs.declared.sets.Pair.{Pair}
+use Rattle.number_sets.specs.declared.sets.Pair.{Pair}
 use Rattle.intervals.specs.Made.{made}
 use Rattle.intervals.specs.Singles.{single}
 use Rattle.intervals.specs.Conditions.{both, turned_all, below, up_from, down_from, except, kept}

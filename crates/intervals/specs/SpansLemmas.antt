@@ -3,7 +3,7 @@ use Rattle.std.specs.Prelude.{◌≡◌, true, ℤ, int_le}
 use Rattle.std.proofs.Common.{arith}
 use Rattle.std.proofs.lemmas.Int.{ints, clamps}
 use Rattle.std.proofs.lemmas.Bool.{and_parts}
-use Rattle.numbers.specs.Sets.{HasSome}
+use Rattle.number_sets.specs.Sets.{HasSome}
 use Rattle.intervals.specs.Intervals.{intervals}
 use Rattle.intervals.specs.Made.{In, yes_le}
 use Rattle.intervals.specs.Spans.{hull, meet, inside}

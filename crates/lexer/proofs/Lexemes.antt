@@ -1,6 +1,6 @@
 -- Each text has its tokens, and no others.
 use Rattle.std.proofs.Common.{◌≡◌, ℕ, zero, suc, ◌+◌, ◌-◌, ◌<◌, ◌≤◌, Bool, true, false, cond, List, [], ◌∷◌, ◌++◌, length, get_or, take, drop, sym, refl, ap, ◌∙◌, subst, true≢false, arith, length-append, length-drop}
-use Rattle.std.specs.List.{AllByRecursion as All}
+use Rattle.std.specs.List.{AllByRecursion}
 use Rattle.std.proofs.lemmas.List.{take_at, drop_at}
 use Rattle.lexer.specs.declared.class.Class.{Class}
 use Rattle.lexer.specs.declared.class.Class.TheVariants.{Letter, Digit, Blank, Mark}
@@ -41,10 +41,10 @@ run_within : (k : Class) (s : List ℕ) → run k s ≤ length s
 run_within k [] = omega arith
 run_within k (b ∷ bs) = elim (same (class b) k) as (λ v. cond v (suc (run k bs)) 0 ≤ length (b ∷ bs)) [ true ↦ omega (arith, run_within k bs) | false ↦ omega arith ]
 
-run_all : (k : Class) (s : List ℕ) → All (λ c. class c ≡ k) (take (run k s) s)
+run_all : (k : Class) (s : List ℕ) → AllByRecursion (λ c. class c ≡ k) (take (run k s) s)
 run_all k [] = tt
 run_all k (b ∷ bs) =
-    elim (same (class b) k) as (λ v. same (class b) k ≡ v → All (λ c. class c ≡ k) (take (cond v (suc (run k bs)) 0) (b ∷ bs))) [
+    elim (same (class b) k) as (λ v. same (class b) k ≡ v → AllByRecursion (λ c. class c ≡ k) (take (cond v (suc (run k bs)) 0) (b ∷ bs))) [
       | true ↦ λ e. (is_class (class b) k e, run_all k bs)
       | false ↦ λ e. tt
     ] refl
@@ -58,7 +58,7 @@ run_stops k (b ∷ bs) =
     ] refl
 
 -- a run that stops is as long as it is
-run_whole : (k : Class) (t s : List ℕ) → All (λ c. class c ≡ k) t → Stops k s → run k (t ++ s) ≡ length t
+run_whole : (k : Class) (t s : List ℕ) → AllByRecursion (λ c. class c ≡ k) t → Stops k s → run k (t ++ s) ≡ length t
 run_whole k [] [] a h = refl
 run_whole k [] (b ∷ s) a h = ap (λ v. cond v (suc (run k s)) 0) (differ (class b) k h)
 run_whole k (b ∷ t) s (e, a) h = ap (λ v. cond v (suc (run k (t ++ s))) 0) (ap (λ j. same j k) e ∙ same_refl k) ∙ ap suc (run_whole k t s a h)

@@ -1,7 +1,7 @@
 -- The tokens of a text as a list, each with its place and its bytes. Each text has one such list.
 use Rattle.std.specs.Prelude.{◌≡◌, ℕ, zero, suc, ◌+◌, ◌-◌, cond, List, [], ◌∷◌, ◌++◌, length, take, drop, Some, None, Option}
 use Rattle.lexer.specs.declared.token.Token.{Token}
-use Rattle.std.specs.List.{AllByRecursion as All}
+use Rattle.std.specs.List.{AllByRecursion}
 use Rattle.lexer.specs.declared.class.Class.{Class}
 use Rattle.lexer.specs.declared.class.Class.TheVariants.{Letter, Digit, Blank, Mark}
 use Rattle.lexer.specs.Classes.{class, same}
@@ -20,8 +20,8 @@ Stops k (b ∷ bs) = class b ≡ k → ⊥
 
 -- t is a token where s follows: a whole run of letters, a whole run of digits, or one byte of another class
 pub data IsToken : List ℕ → List ℕ → Type 0 where
-  letters : {s : List ℕ} (b : ℕ) (bs : List ℕ) → All (λ c. class c ≡ Letter) (b ∷ bs) → Stops Letter s → IsToken (b ∷ bs) s
-  digits : {s : List ℕ} (b : ℕ) (bs : List ℕ) → All (λ c. class c ≡ Digit) (b ∷ bs) → Stops Digit s → IsToken (b ∷ bs) s
+  letters : {s : List ℕ} (b : ℕ) (bs : List ℕ) → AllByRecursion (λ c. class c ≡ Letter) (b ∷ bs) → Stops Letter s → IsToken (b ∷ bs) s
+  digits : {s : List ℕ} (b : ℕ) (bs : List ℕ) → AllByRecursion (λ c. class c ≡ Digit) (b ∷ bs) → Stops Digit s → IsToken (b ∷ bs) s
   mark : {s : List ℕ} (b : ℕ) → class b ≡ Mark → IsToken (b ∷ []) s
 
 -- the tokens of s, which stands at the place p, with blanks skipped

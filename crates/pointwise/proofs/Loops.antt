@@ -2,7 +2,7 @@
 use Rattle.std.proofs.Common.{◌≡◌, ℕ, ◌+◌, ◌<◌, ◌≤◌, Bool, true, false, cond, eqb, ◌≢◌, List, length, get_or, take, set, sym, refl, ap, ◌∙◌, ap₂, add-one, arith, length-set, take_all, get_or-set_other, get_or-set_same, take-suc-set}
 use Rattle.std.proofs.lemmas.List.{same_lists, get_or_default}
 use Rattle.std.proofs.lemmas.Bool.{eqb-true, eqb-false}
-use Rattle.numbers.specs.Sets.{NumberSets}
+use Rattle.number_sets.specs.Sets.{NumberSets}
 use Rattle.pointwise.specs.States.{of, changed}
 use Rattle.pointwise.specs.Tables.{build, every}
 use Rattle.pointwise.specs.Built.{length_build, at_build}

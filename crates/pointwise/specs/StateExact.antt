@@ -18,9 +18,9 @@ use Rattle.model.specs.Written.{Written, WrittenCondition}
 use Rattle.domain.specs.Lattice.{empty, single}
 use Rattle.domain.specs.Tracking.{Tracking}
 use Rattle.domain.specs.Environments.{lies_in, in_lies}
-use Rattle.numbers.specs.declared.sets.Pair.{Pair}
-use Rattle.numbers.specs.Sets.{NumberSets, LawfulSets}
-use Rattle.numbers.specs.Exact.{ExactSets}
+use Rattle.number_sets.specs.declared.sets.Pair.{Pair}
+use Rattle.number_sets.specs.Sets.{NumberSets, LawfulSets}
+use Rattle.number_sets.specs.Exact.{ExactSets}
 use Rattle.pointwise.specs.declared.state.Pointwise.{Pointwise}
 use Rattle.pointwise.specs.declared.state.Pointwise.TheVariants.{None, Each}
 use Rattle.pointwise.specs.States.{of, term, value, changed, put, narrow, keep, kept_sides}

@@ -14,14 +14,14 @@ use Rattle.model.specs.declared.expression.Term.TheVariants.{Number, Parameter a
 use Rattle.model.specs.declared.expression.Expression.{Expression}
 use Rattle.model.specs.declared.expression.Expression.TheVariants.{Bare, Apply}
 use Rattle.model.specs.declared.expression.Condition.{Condition}
-use Rattle.model.specs.Environments.{Env, Lies, LegalOf, at, fit, full, named, position}
+use Rattle.model.specs.Environments.{Env, Lies, LegalOf, at, fit, full, named, registers, position}
 use Rattle.model.specs.Sides.{along, axis_register, Holds}
 use Rattle.model.specs.Values.{register, evaluate, holds, term as number}
 use Rattle.model.specs.Written.{Written, WrittenTerm, WrittenCondition}
 use Rattle.domain.specs.Lattice.{Lawful, Inside, empty}
 use Rattle.domain.specs.Environments.{lies_in, in_lies}
-use Rattle.numbers.specs.declared.sets.Pair.{Pair}
-use Rattle.numbers.specs.Sets.{NumberSets, LawfulSets, HasSome, HasPair}
+use Rattle.number_sets.specs.declared.sets.Pair.{Pair}
+use Rattle.number_sets.specs.Sets.{NumberSets, LawfulSets, HasSome, HasPair}
 use Rattle.pointwise.specs.declared.state.Pointwise.{Pointwise}
 use Rattle.pointwise.specs.declared.state.Pointwise.TheVariants.{None, Each}
 use Rattle.pointwise.specs.States.{of, term, value, means, rank, changed, put, narrow, keep, kept_sides}
@@ -221,3 +221,7 @@ module _ {V : Type 0} (a : NumberSets V) (p : LawfulSets a) (n : ℕ) (enough : 
     widen_le = widen_le;
     widen_lt = widen_lt;
   }
+
+-- the registers that lines can name are among all
+pub registers_named : named ≤ registers
+registers_named = omega arith

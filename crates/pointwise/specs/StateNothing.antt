@@ -4,7 +4,7 @@ use Rattle.std.proofs.Common.{arith}
 use Rattle.model.specs.declared.expression.Term.{Term}
 use Rattle.model.specs.declared.expression.Expression.TheVariants.{Bare}
 use Rattle.domain.specs.Nothing.{Strict}
-use Rattle.numbers.specs.Sets.{NumberSets}
+use Rattle.number_sets.specs.Sets.{NumberSets}
 use Rattle.pointwise.specs.declared.state.Pointwise.{Pointwise}
 use Rattle.pointwise.specs.declared.state.Pointwise.TheVariants.{None, Each}
 use Rattle.pointwise.specs.States.{join, widen, within, sure, pointwise}

@@ -14,8 +14,8 @@ use Rattle.model.specs.Written.{Written}
 use Rattle.domain.specs.Lattice.{single}
 use Rattle.domain.specs.Tracking.{Sharpens, begin, cut, pin}
 use Rattle.domain.specs.PairTracks.{sharp_means, lies_single}
-use Rattle.numbers.specs.Sets.{NumberSets, LawfulSets, HasSome}
-use Rattle.numbers.specs.Exact.{ExactSets}
+use Rattle.number_sets.specs.Sets.{NumberSets, LawfulSets, HasSome}
+use Rattle.number_sets.specs.Exact.{ExactSets}
 use Rattle.pointwise.specs.declared.state.Pointwise.{Pointwise}
 use Rattle.pointwise.specs.declared.state.Pointwise.TheVariants.{None, Each}
 use Rattle.pointwise.specs.States.{of, term, value, means, changed, put, narrow}

@@ -12,10 +12,10 @@ use Rattle.model.specs.Environments.{Env, at}
 use Rattle.model.specs.Sides.{axis_register}
 use Rattle.model.specs.Values.{register}
 use Rattle.domain.specs.Lattice.{Lattice, empty}
-use Rattle.numbers.specs.declared.sets.Pair.{Pair}
+use Rattle.number_sets.specs.declared.sets.Pair.{Pair}
 use Rattle.pointwise.specs.declared.state.Pointwise.{Pointwise}
 use Rattle.pointwise.specs.declared.state.Pointwise.TheVariants.{None, Each}
-use Rattle.numbers.specs.Sets.{NumberSets}
+use Rattle.number_sets.specs.Sets.{NumberSets}
 use Rattle.pointwise.specs.Tables.{build, every, sum_to}
 
 module _ {V : Type 0} (a : NumberSets V) where

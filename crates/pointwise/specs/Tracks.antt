@@ -4,7 +4,7 @@ use Rattle.std.specs.declared.option.Option.TheVariants as opt
 use Rattle.model.specs.Environments.{Env, at}
 use Rattle.pointwise.specs.declared.state.Pointwise.{Pointwise}
 use Rattle.pointwise.specs.declared.state.Pointwise.TheVariants.{None, Each}
-use Rattle.numbers.specs.Sets.{NumberSets}
+use Rattle.number_sets.specs.Sets.{NumberSets}
 use Rattle.pointwise.specs.States.{of}
 
 abbrev pub tracks : {V : Type 0} → NumberSets V → ℕ → Pointwise V → Option Env → Type 0

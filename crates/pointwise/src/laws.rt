@@ -7,7 +7,7 @@ ghost use Rattle.domain.specs.Tracking.{Tracking};
 ghost use Rattle.pointwise.specs.States.{pointwise};
 ghost use Rattle.pointwise.specs.Tracks.{tracks};
 
-use numbers::sets::NumberSet;
+use number_sets::sets::NumberSet;
 
 // Nothing to compute: its contract is that the laws hold, whatever the kind of set and however many registers.
 pub fn laws_hold<V: NumberSet>() -> bool

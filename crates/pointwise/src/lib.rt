@@ -2,8 +2,8 @@
 
 #![tactic(auto)]
 
-pub mod congruences;
-pub mod intervals;
+pub mod congruence_states;
+pub mod interval_states;
 pub mod laws;
 pub mod sets;
 pub mod state;

@@ -7,7 +7,7 @@ ghost use Rattle.pointwise.specs.Tables.{build, every};
 use model::expression::{Expression, Term};
 use model::register::{REGISTERS, axis_register, register_of};
 use model::side::Side;
-use numbers::sets::NumberSet;
+use number_sets::sets::NumberSet;
 
 pub(crate) fn changed<V: NumberSet>(
     sets: &[V; REGISTERS],

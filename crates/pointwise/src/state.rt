@@ -9,7 +9,7 @@ use model::expression::{Condition, Expression, Term};
 use model::range::Range;
 use model::register::{REGISTERS, register_of};
 use model::side::Side;
-use numbers::sets::{NumberSet, Pair};
+use number_sets::sets::{NumberSet, Pair};
 
 // A set for each register, or no environment at all.
 #[derive(Clone, Copy)]

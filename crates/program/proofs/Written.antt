@@ -3,7 +3,7 @@ use Rattle.std.proofs.Common.{◌≡◌, true, List, [], ◌∷◌, ◌++◌, �
 use lib.Signed.{le_z}
 use Rattle.std.proofs.lemmas.Int.{ints}
 use Rattle.std.proofs.lemmas.Bool.{and_parts, and_from}
-use Rattle.std.specs.List.{AllByRecursion as All}
+use Rattle.std.specs.List.{AllByRecursion}
 use Rattle.model.specs.declared.expression.Term.{Term}
 use Rattle.model.specs.declared.expression.Term.TheVariants.{Number, Parameter as Held}
 use Rattle.model.specs.declared.expression.Expression.{Expression}
@@ -49,7 +49,7 @@ passing_line (If l c) h = passing_condition c h
 passing_line (EndIf l) h = tt
 passing_line (EndWhile l) h = tt
 
-pub passing_lines : (xs : List Line) → all_written xs ≡ true → All WrittenLine xs
+pub passing_lines : (xs : List Line) → all_written xs ≡ true → AllByRecursion WrittenLine xs
 passing_lines [] h = tt
 passing_lines (x ∷ xs) h = let q = and_parts (is_written x) (all_written xs) h in (passing_line x q.0, passing_lines xs q.1)
 

@@ -1,7 +1,7 @@
 -- The theorem: on single values and without loops the verdict is what the run does.
 use Rattle.std.proofs.Common.{◌≡◌, ℕ, ◌≤◌, List, [], ◌∷◌, map, length, drop, Some, None, fold, Option, sym, refl, ◌∙◌, subst, arith}
 use lib.ListN.{length-replicate}
-use Rattle.std.specs.List.{AllByRecursion as All}
+use Rattle.std.specs.List.{AllByRecursion}
 use Rattle.model.specs.declared.range.Range.{Range}
 use Rattle.model.specs.declared.ending.Failure.{Failure}
 use Rattle.model.specs.declared.ending.Ending.{Ending}
@@ -46,7 +46,7 @@ module _ {S : Type 0} (l : Lattice S) (tracks : S → Option Env → Type 0) (q 
   fold_is lines sides begin s = refl
 
   module _ (lines : List Line) (sides : List Side) (e : Env) (n k : ℕ) (w : Sweep S) where
-    ends_so : Closed lines → All WrittenLine lines → All NoWhile lines → LegalOf registers e → length (labels lines) ≤ n → length lines ≤ k →
+    ends_so : Closed lines → AllByRecursion WrittenLine lines → AllByRecursion NoWhile lines → LegalOf registers e → length (labels lines) ≤ n → length lines ≤ k →
         Judges l lines sides (position e) (map single (drop axes e)) n w → Dry lines sides k 0 e (stop_of w.failing)
     ends_so closed written forward legal room enough judges =
         let begin = start l (position e) (map single (drop axes e)) in

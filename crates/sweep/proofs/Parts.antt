@@ -1,6 +1,6 @@
 -- The rest of a program from some line on, with the blocks that are open there.
 use Rattle.std.proofs.Common.{◌≡◌, ℕ, suc, ◌+◌, ◌⊎◌, List, [], ◌∷◌, length, Some, sym, refl, ap, ◌∙◌, subst, inl, inr, arith}
-use Rattle.std.specs.List.{AllByRecursion as All}
+use Rattle.std.specs.List.{AllByRecursion}
 use Rattle.model.specs.declared.expression.Condition.{Condition}
 use Rattle.model.specs.declared.block.BlockKind.{BlockKind}
 use Rattle.model.specs.declared.block.BlockKind.TheVariants.{If as IfBlock}
@@ -27,8 +27,8 @@ Fresh os xs = (o k : ℕ) (x : Line) → OpenLabel o os → Stands xs k x → op
 -- xs are the lines from i on, and os the open blocks there
 pub record Part (lines : List Line) (os : Stack) (xs : List Line) (i : ℕ) : Type 0 where
   pub nested : Leads os xs []
-  pub forward : All NoWhile xs
-  pub written : All WrittenLine xs
+  pub forward : AllByRecursion NoWhile xs
+  pub written : AllByRecursion WrittenLine xs
   pub once : Once xs
   pub fresh : Fresh os xs
   pub known : (o : ℕ) → OpenLabel o os → Among o (labels lines)
@@ -36,7 +36,7 @@ pub record Part (lines : List Line) (os : Stack) (xs : List Line) (i : ℕ) : Ty
   pub long : i + length xs ≡ length lines
 
 module _ (lines : List Line) where
-  pub whole : Closed lines → All WrittenLine lines → All NoWhile lines → Part lines [] lines 0
+  pub whole : Closed lines → AllByRecursion WrittenLine lines → AllByRecursion NoWhile lines → Part lines [] lines 0
   whole c v f = record {
     nested = c.nested;
     forward = f;

@@ -1,7 +1,7 @@
 -- A certificate is sound: at each line a state that holds every environment a run brings there.
 use Rattle.std.proofs.Common.{◌≡◌, ℕ, suc, ◌+◌, ◌<◌, ◌≤◌, true, false, List, [], ◌∷◌, length, get_or, Some, None, Option, sym, refl, ap, ◌∙◌, subst, true≢false, arith}
 use native.Mathlib.Decide.{dec_lt}
-use Rattle.std.specs.List.{AllByRecursion as All}
+use Rattle.std.specs.List.{AllByRecursion}
 use Rattle.std.proofs.ByRecursion.{All-get_or}
 use Rattle.std.proofs.lemmas.List.{get_or_past}
 use Rattle.model.specs.declared.expression.Condition.{Condition}
@@ -37,7 +37,7 @@ use Rattle.sweep.proofs.Values.{sure_fine, set_all_holds}
 use Rattle.sweep.proofs.Hulls.{hulls_hold}
 use Rattle.sweep.proofs.Judged.{no_broken, all_shown, line_sure, line_inside, hulls_four, hulls_to_end}
 
-module _ {S : Type 0} (l : Lattice S) (p : Lawful registers l) (sides : List Side) (lines : List Line) (begin : S) (s : List S) (closed : Closed lines) (written : All WrittenLine lines)
+module _ {S : Type 0} (l : Lattice S) (p : Lawful registers l) (sides : List Side) (lines : List Line) (begin : S) (s : List S) (closed : Closed lines) (written : AllByRecursion WrittenLine lines)
     (room : length (labels lines) ≤ length s) (end : (pre l (blocks lines) sides lines begin s (length lines)).flow.changed ≡ false) where
   abbrev here : ℕ → Sweep S
   here = pre l (blocks lines) sides lines begin s

@@ -1,6 +1,6 @@
 -- On single values a program without loops is certified exactly where its run ends well, and else fails as its run does.
 use Rattle.std.specs.Prelude.{◌≡◌, ℕ, ◌≤◌, ◌↔◌, List, map, length, drop}
-use Rattle.std.specs.List.{AllByRecursion as All}
+use Rattle.std.specs.List.{AllByRecursion}
 use Rattle.model.specs.declared.side.Side.{Side}
 use Rattle.model.specs.declared.ending.Ending.{Ending}
 use Rattle.model.specs.declared.ending.Ending.TheVariants.{Ended, Stopped}
@@ -32,6 +32,6 @@ ending (uncertified f) = Stopped f
 -- home and the allowed ranges leave the one environment e: a run of enough steps ends as the verdict says, and no other way
 abbrev pub Exact : {S : Type 0} → Lattice S → Type 0
 Exact {S} l = (lines : List Line) (sides : List Side) (e : Env) (n k : ℕ) (w : Sweep S) →
-    Closed lines → All WrittenLine lines → All NoWhile lines → LegalOf registers e → length (labels lines) ≤ n → length lines ≤ k →
+    Closed lines → AllByRecursion WrittenLine lines → AllByRecursion NoWhile lines → LegalOf registers e → length (labels lines) ≤ n → length lines ≤ k →
     Judges l lines sides (position e) (map single (drop axes e)) n w →
     (o : Ending) → Dry lines sides k 0 e o ↔ (o ≡ ending (verdict w))

@@ -1,6 +1,6 @@
 -- What a certificate promises of every run, and what an unchanged sweep knows of every line that a run reaches.
 use Rattle.std.specs.Prelude.{◌≡◌, ℕ, ◌<◌, ◌≤◌, false, List, length, take, replicate, ℤ, Some, None, Option, slice_index_or}
-use Rattle.std.specs.List.{AllByRecursion as All}
+use Rattle.std.specs.List.{AllByRecursion}
 use Rattle.model.specs.declared.expression.Condition.{Condition}
 use Rattle.model.specs.declared.side.Position.{Position}
 use Rattle.model.specs.declared.range.Range.{Range}
@@ -44,7 +44,7 @@ Judges l lines sides home allowed n w = Settles l (blocks lines) sides lines (st
 -- a program that is certified is safe
 abbrev pub Sound : {S : Type 0} → Lattice S → Type 0
 Sound {S} l = (lines : List Line) (sides : List Side) (home : Position) (allowed : List Range) (n : ℕ) (w : Sweep S) (hulls : List (Option Range)) →
-    Closed lines → All WrittenLine lines → length allowed ≡ parameters → length (labels lines) ≤ n → Judges l lines sides home allowed n w → verdict w ≡ certified hulls →
+    Closed lines → AllByRecursion WrittenLine lines → length allowed ≡ parameters → length (labels lines) ≤ n → Judges l lines sides home allowed n w → verdict w ≡ certified hulls →
     Safe lines sides home allowed hulls
 
 -- a dry run either goes on or ends
@@ -56,7 +56,7 @@ NotStopped (Stopped f) = ⊥
 -- so no dry run from home and allowed values stops, however many its steps
 abbrev pub NeverStops : {S : Type 0} → Lattice S → Type 0
 NeverStops {S} l = (lines : List Line) (sides : List Side) (home : Position) (allowed : List Range) (n k : ℕ) (w : Sweep S) (hulls : List (Option Range)) (e : Env) (o : Ending) →
-    Closed lines → All WrittenLine lines → length allowed ≡ parameters → length (labels lines) ≤ n → Judges l lines sides home allowed n w → verdict w ≡ certified hulls →
+    Closed lines → AllByRecursion WrittenLine lines → length allowed ≡ parameters → length (labels lines) ≤ n → Judges l lines sides home allowed n w → verdict w ≡ certified hulls →
     Begins home allowed e → Dry lines sides k 0 e o → NotStopped o
 
 module _ {S : Type 0} (l : Lattice S) (lines : List Line) (sides : List Side) (begin : S) where
@@ -85,7 +85,7 @@ module _ {S : Type 0} (l : Lattice S) (lines : List Line) (sides : List Side) (b
 -- certified or not, what an unchanged sweep knows before a line means every environment that a run brings there
 abbrev pub Covers : {S : Type 0} → Lattice S → Type 0
 Covers {S} l = (lines : List Line) (sides : List Side) (home : Position) (allowed : List Range) (store : List S) →
-    Closed lines → All WrittenLine lines → length allowed ≡ parameters → Unchanged l lines sides (start l home allowed) store →
+    Closed lines → AllByRecursion WrittenLine lines → length allowed ≡ parameters → Unchanged l lines sides (start l home allowed) store →
     (i : ℕ) (e : Env) → Reached lines home allowed i e → l.means (known l lines sides (start l home allowed) store i) e
 
 -- the sweep that judges is the unchanged one from some store

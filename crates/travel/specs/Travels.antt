@@ -1,6 +1,6 @@
 -- What makes a travel lawful: its region is exactly where its sides hold, home is in it, and the sides are few and proper.
 use Rattle.std.specs.Prelude.{◌≡◌, ◌*◌, ◌^◌, ◌≤◌, Bool, true, List, length, ℤ, pos, neg_ℤ, ◌≤ℤ◌}
-use Rattle.std.specs.List.{AllByRecursion as All}
+use Rattle.std.specs.List.{AllByRecursion}
 use Rattle.model.specs.Limits.{limit}
 use Rattle.model.specs.Sides.{AllHold}
 use Rattle.model.specs.declared.side.Position.{Position}
@@ -44,4 +44,4 @@ pub record Lawful (region : Position → Type 0) (sides : List Side) (home : Pos
   pub home_fits : Limited home.x × Limited home.y × Limited home.z × Limited home.u
   pub some : 1 ≤ length sides
   pub few : length sides ≤ 16
-  pub proper : All Proper sides
+  pub proper : AllByRecursion Proper sides

@@ -5,7 +5,7 @@ ghost use Rattle.intervals.specs.Conditions.{both, turned_all, below, up_from, d
 
 use crate::interval::Interval;
 use crate::interval::spans::made;
-use numbers::sets::Pair;
+use number_sets::sets::Pair;
 
 // Both sides, if neither is empty.
 pub(crate) fn both(left: Option<Interval>, right: Option<Interval>) -> Option<Pair<Interval>>

@@ -8,7 +8,7 @@ use crate::interval::spans::{made, widened_down, widened_up};
 use model::expression::{LIMIT, Op, Rel};
 use model::range::Range;
 use model::side::{Factor, Sign};
-use numbers::sets::{NumberSet, Pair};
+use number_sets::sets::{NumberSet, Pair};
 
 impl NumberSet for Interval {
     ghost sets = { intervals };

@@ -4,9 +4,8 @@ ghost use Rattle.model.specs.Environments.{registers};
 ghost use Rattle.congruences.specs.Numbers.{congruences};
 ghost use Rattle.pointwise.specs.States.{pointwise};
 ghost use Rattle.pointwise.specs.Tracks.{tracks};
-ghost use Rattle.std.proofs.Common.{arith};
 ghost use Rattle.congruences.specs.Lawful;
-ghost use Rattle.pointwise.specs.StateLaws.{state_lawful};
+ghost use Rattle.pointwise.specs.StateLaws.{state_lawful, registers_named};
 ghost use Rattle.pointwise.specs.StateNothing.{state_strict};
 ghost use Rattle.congruences.specs.Exact;
 ghost use Rattle.pointwise.specs.StateExact.{state_tracking};
@@ -18,7 +17,7 @@ use model::expression::{Condition, Expression};
 use model::range::Range;
 use model::register::REGISTERS;
 use model::side::Side;
-use numbers::sets::NumberSet;
+use number_sets::sets::NumberSet;
 
 pub type Congruences = Pointwise<Congruence>;
 
@@ -34,11 +33,11 @@ impl Domain for Pointwise<Congruence> {
 
     ghost tracks = { tracks congruences registers };
 
-    ghost lawful = { state_lawful congruences Lawful.lawful registers (omega arith) };
+    ghost lawful = { state_lawful congruences Lawful.lawful registers registers_named };
 
     ghost nothing = { λ h. state_strict congruences registers };
 
-    ghost tracking = { λ h. state_tracking congruences Lawful.lawful Exact.exact registers (omega arith) };
+    ghost tracking = { λ h. state_tracking congruences Lawful.lawful Exact.exact registers registers_named };
 
     fn rank_of_none() -> u64 {
         Self::NONE_RANK

@@ -4,9 +4,8 @@ ghost use Rattle.model.specs.Environments.{registers};
 ghost use Rattle.intervals.specs.Intervals.{intervals};
 ghost use Rattle.pointwise.specs.States.{pointwise};
 ghost use Rattle.pointwise.specs.Tracks.{tracks};
-ghost use Rattle.std.proofs.Common.{arith};
 ghost use Rattle.intervals.specs.Laws.{intervals_lawful, intervals_exact};
-ghost use Rattle.pointwise.specs.StateLaws.{state_lawful};
+ghost use Rattle.pointwise.specs.StateLaws.{state_lawful, registers_named};
 ghost use Rattle.pointwise.specs.StateNothing.{state_strict};
 ghost use Rattle.pointwise.specs.StateExact.{state_tracking};
 
@@ -17,7 +16,7 @@ use model::expression::{Condition, Expression};
 use model::range::Range;
 use model::register::REGISTERS;
 use model::side::Side;
-use numbers::sets::NumberSet;
+use number_sets::sets::NumberSet;
 
 pub type Intervals = Pointwise<Interval>;
 
@@ -33,11 +32,11 @@ impl Domain for Pointwise<Interval> {
 
     ghost tracks = { tracks intervals registers };
 
-    ghost lawful = { state_lawful intervals intervals_lawful registers (omega arith) };
+    ghost lawful = { state_lawful intervals intervals_lawful registers registers_named };
 
     ghost nothing = { λ h. state_strict intervals registers };
 
-    ghost tracking = { λ h. state_tracking intervals intervals_lawful intervals_exact registers (omega arith) };
+    ghost tracking = { λ h. state_tracking intervals intervals_lawful intervals_exact registers registers_named };
 
     fn rank_of_none() -> u64 {
         Self::NONE_RANK

@@ -1,7 +1,7 @@
 // What a set of numbers for one register answers.
 ghost use Rattle.std.specs.Prelude.{◌≡◌};
-ghost use Rattle.numbers.specs.Exact.{ExactSets};
-ghost use Rattle.numbers.specs.Sets.{NumberSets, LawfulSets};
+ghost use Rattle.number_sets.specs.Exact.{ExactSets};
+ghost use Rattle.number_sets.specs.Sets.{NumberSets, LawfulSets};
 
 use model::expression::{Op, Rel};
 use model::range::Range;

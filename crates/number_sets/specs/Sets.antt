@@ -9,7 +9,7 @@ use Rattle.model.specs.Environments.{Lies, full}
 use Rattle.model.specs.Sides.{signed, scaled}
 use Rattle.model.specs.Values.{apply, compare}
 use Rattle.domain.specs.Lattice.{Inside, empty}
-use Rattle.numbers.specs.declared.sets.Pair.{Pair}
+use Rattle.number_sets.specs.declared.sets.Pair.{Pair}
 
 pub record NumberSets (V : Type 0) : Type 1 where
   -- n is one of the numbers

@@ -9,7 +9,7 @@ use Rattle.model.specs.Environments.{Lies, fit, full}
 use Rattle.model.specs.Sides.{signed, scaled}
 use Rattle.model.specs.Values.{apply, compare}
 use Rattle.domain.specs.Lattice.{single}
-use Rattle.numbers.specs.Sets.{NumberSets}
+use Rattle.number_sets.specs.Sets.{NumberSets}
 
 pub record ExactSets {V : Type 0} (a : NumberSets V) : Type 0 where
   pub apply_single : (o : Op) (m n : ℤ) → Lies m full → Lies n full → Lies (apply o m n) full → a.apply o (a.single m) (a.single n) ≡ Some (a.single (apply o m n))
