@@ -1,6 +1,6 @@
 // It tells nothing but that there is no environment, and its answers go to and fro: narrowing a state twice by the same range
 // gives the state back, and one state is not within another of the same meaning.
-ghost use Rattle.std.specs.Prelude.{false};
+ghost use Rattle.std.specs.Prelude.{◌≡◌, false};
 ghost use Rattle.fickle.specs.Fickle.{fickle, whole_or_empty, never};
 ghost use Rattle.model.specs.Environments.{registers};
 ghost use Rattle.fickle.specs.FickleLaws.{fickle_lawful, not_claimed};
