@@ -3,4 +3,4 @@ use Rattle.pointwise.proofs.state.Pointwise.everything.Goals as goal
 
 pub returns : goal.returns
 unfolding build
-returns g c = rw c.whole.ensures
+returns g c = cc
