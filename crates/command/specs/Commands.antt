@@ -1,6 +1,6 @@
 -- What a line asks for: its first word chooses, and the words after it must be exactly so many numbers.
 use Rattle.std.specs.Prelude.{ℕ, ◌+◌, List, [], ◌∷◌, length, take, drop, ℤ, pos, negsuc, Some, None, Option}
-use Rattle.model.specs.declared.side.Position.{Position}
+use Rattle.model.specs.Axes.{Position}
 use Rattle.model.specs.Environments.{at, position, parameters}
 use Rattle.command.specs.declared.command.Command.{Command}
 use Rattle.command.specs.declared.word.Word.{Word}

@@ -40,21 +40,15 @@ fn met(x: Congruence, y: Congruence, at: Option<u64>) -> Option<Congruence>
     requires { (0 < y.modulus) × (Below y.modulus at) }
     ensures { result ≡ met x y at }
 {
-    match at {
-        Some(t) => settled(lcm(x.modulus, y.modulus), shifted(x, t)),
-        None => None,
-    }
+    let t = at?;
+    settled(lcm(x.modulus, y.modulus), shifted(x, t))
 }
 
 impl Congruence {
     fn lone(self, other: Congruence) -> Option<Congruence>
         ensures { result ≡ lone self other }
     {
-        if divides(other.modulus, self.residue.abs_diff(other.residue)) {
-            Some(self)
-        } else {
-            None
-        }
+        divides(other.modulus, self.residue.abs_diff(other.residue)).then_some(self)
     }
 
     // The congruence of the members of both, or None where there are none within the limit.

@@ -7,7 +7,7 @@ use crate::congruence::Congruence;
 use crate::settle::checked_single;
 use divisibility::remainders::remainder;
 use model::expression::LIMIT;
-use model::range::Range;
+use model::range::{EMPTY, Range};
 
 impl Congruence {
     fn first(self, lo: i32) -> i64
@@ -56,24 +56,17 @@ impl Congruence {
         ensures value { result ≡ ranged self range }
         ensures found { Found self range result }
     {
-        match self.ends_in(range) {
-            Some(ends) => ends,
-            None => Range { lo: 1, hi: 0 },
-        }
+        self.ends_in(range).unwrap_or(EMPTY)
     }
 
     fn narrowed_to(self, found: Option<Range>) -> Option<Congruence>
         ensures { result ≡ narrowed_to self found }
     {
-        match found {
-            Some(ends) => {
-                if ends.lo <= ends.hi && ends.hi <= ends.lo {
-                    checked_single(ends.lo as i64)
-                } else {
-                    Some(self)
-                }
-            }
-            None => None,
+        let ends = found?;
+        if ends.lo == ends.hi {
+            checked_single(ends.lo as i64)
+        } else {
+            Some(self)
         }
     }
 

@@ -1,32 +1,19 @@
 // Sums, differences and products.
-ghost use Rattle.std.specs.Prelude.{◌≡◌, ◌*◌, ◌≤◌, unsigned_abs};
-ghost use Rattle.model.specs.Limits.{limit};
-ghost use Rattle.model.specs.Values.{apply};
+ghost use Rattle.std.specs.Prelude.{◌≡◌};
 ghost use Rattle.congruences.specs.Results.{modulus_of, results, fits};
 
 use crate::congruence::Congruence;
-use crate::settle::{settled, within_limit};
+use crate::settle::settled;
 use divisibility::euclid::gcd;
 use model::expression::Op;
-
-fn apply(op: Op, u: i64, v: i64) -> i64
-    requires { (unsigned_abs u ≤ 2 * limit) × (unsigned_abs v ≤ 2 * limit) }
-    ensures { result ≡ apply op u v }
-{
-    match op {
-        Op::Add => u + v,
-        Op::Sub => u - v,
-        Op::Mul => u * v,
-    }
-}
+use model::range::fits;
 
 impl Congruence {
     fn modulus_of(self, op: Op, other: Congruence) -> u64
         ensures { result ≡ modulus_of op self other }
     {
         match op {
-            Op::Add => gcd(self.modulus, other.modulus),
-            Op::Sub => gcd(self.modulus, other.modulus),
+            Op::Add | Op::Sub => gcd(self.modulus, other.modulus),
             Op::Mul => gcd(
                 self.modulus * other.modulus,
                 gcd(
@@ -43,7 +30,7 @@ impl Congruence {
     {
         settled(
             self.modulus_of(op, other),
-            apply(op, self.residue, other.residue),
+            op.apply(self.residue, other.residue),
         )
     }
 
@@ -51,8 +38,6 @@ impl Congruence {
     pub fn result_fits(self, op: Op, other: Congruence) -> bool
         ensures { result ≡ fits op self other }
     {
-        self.modulus == 0
-            && other.modulus == 0
-            && within_limit(apply(op, self.residue, other.residue))
+        self.modulus == 0 && other.modulus == 0 && fits(op.apply(self.residue, other.residue))
     }
 }

@@ -1,6 +1,5 @@
 // Congruences from any modulus and any residue.
 ghost use Rattle.std.specs.Prelude.{◌≡◌, ◌*◌, ◌<◌, ◌≤◌, pos, ◌≤ℤ◌};
-ghost use Rattle.model.specs.Environments.{fit};
 ghost use Rattle.model.specs.Limits.{limit};
 ghost use Rattle.divisibility.specs.Multiples.{remainder};
 ghost use Rattle.congruences.specs.Settled.{checked, folded, settled};
@@ -8,19 +7,13 @@ ghost use Rattle.congruences.specs.Settled.{checked, folded, settled};
 use crate::congruence::Congruence;
 use divisibility::remainders::remainder;
 use model::expression::LIMIT;
-
-// Whether a number lies within the limit.
-pub fn within_limit(n: i64) -> bool
-    ensures { result ≡ fit n }
-{
-    -(LIMIT as i64) <= n && n <= LIMIT as i64
-}
+use model::range::fits;
 
 // The single number r, where it lies within the limit.
 pub fn checked_single(r: i64) -> Option<Congruence>
     ensures { result ≡ checked 0 r }
 {
-    if within_limit(r) {
+    if fits(r) {
         Some(Congruence {
             modulus: 0,
             residue: r,

@@ -1,7 +1,7 @@
 -- What a command of a script does to the session that stands, and what it is answered.
 use Rattle.std.specs.Prelude.{◌≡◌, ℕ, List, ℤ, pos, negsuc, Some, None, Ok, Err, Option, Result}
 use Rattle.model.specs.declared.ending.Ending.{Ending}
-use Rattle.model.specs.declared.side.Position.{Position}
+use Rattle.model.specs.Axes.{Position}
 use Rattle.model.specs.declared.side.Side.{Side}
 use Rattle.model.specs.Whole.{TheEnding}
 use Rattle.command.specs.Commands.{Meant, bench_gantry, bench_beam, gantry, beam, line, allow, wipe, dry, bad}

@@ -2,7 +2,8 @@
 ghost use Rattle.either_travel.specs.Eithers.{either};
 ghost use Rattle.either_travel.specs.declared.either.Either.TheVariants.{First, Second};
 
-use model::side::{Position, Side};
+use model::axes::Position;
+use model::side::Side;
 use travel::travel::Travel;
 
 #[derive(Clone, Copy)]

@@ -1,5 +1,5 @@
 -- Ends as the code has them: they went to their 64 bits and back.
-use Rattle.std.proofs.Common.{◌≡◌, ℤ, sym, ◌∙◌, subst, ap₂, arith, w64, SFits, to_z, of_z}
+use Rattle.std.proofs.Common.{◌≡◌, ℤ, ◌∙◌, ap₂, arith, w64, SFits, to_z, of_z}
 use Rattle.std.proofs.lemmas.Int.{ints, to_z-of_z}
 use Rattle.model.specs.Environments.{Lies, full}
 use Rattle.intervals.specs.declared.interval.Interval.{Interval}
@@ -20,9 +20,6 @@ lies_fits n p = omega (arith, ints)
 
 back_same : (n : ℤ) → Lies n full → back n ≡ n
 back_same n p = to_z-of_z w64 n (lies_fits n p)
-
-pub back_lies : (n : ℤ) → Lies n full → Lies (back n) full
-back_lies n p = subst (λ (m : ℤ). Lies m full) (sym (back_same n p)) p
 
 -- what is worked out from two lower ends, or from two upper ends
 pub lows_back : (f : ℤ → ℤ → ℤ) (x y : Interval) (r : ℤ) → SFits w64 r → r ≡ f (back x.lo) (back y.lo) → back r ≡ f x.lo y.lo

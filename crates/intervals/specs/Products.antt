@@ -1,20 +1,11 @@
--- Products of numbers within the limit fit 64 bits, and are extreme at the ends.
-use Rattle.std.specs.Prelude.{◌≡◌, ℕ, suc, ◌+◌, ◌*◌, ◌≤◌, ℤ, pos, negsuc, ◌*ℤ◌, neg_ℤ, ◌≤ℤ◌, FitsSigned}
-use Rattle.std.proofs.Common.{ap₂, sym, ◌∙◌, subst₂, mul-le-mul, mul-le-mul_right, arith, to_z, of_z}
+-- Products are extreme at the ends.
+use Rattle.std.specs.Prelude.{◌≡◌, ℕ, suc, ◌+◌, ◌*◌, ◌≤◌, ℤ, pos, negsuc, ◌*ℤ◌, ◌≤ℤ◌}
+use Rattle.std.proofs.Common.{mul-le-mul_right, arith}
 use Rattle.std.proofs.Math.IntN.{*ℤ_comm}
 use borrow.Author.Differences.{up, down, le_out}
-use Rattle.std.specs.Int.{int_min, int_max, w64}
-use Rattle.std.proofs.lemmas.Int.{ints, clamps, to_z-of_z}
-use Rattle.model.specs.Environments.{Lies, full}
-use Rattle.model.specs.Limits.{limit}
+use Rattle.std.specs.Int.{int_min, int_max}
+use Rattle.std.proofs.lemmas.Int.{ints, clamps}
 use Rattle.intervals.specs.Results.{least, greatest}
-
--- a product of two numbers within the limit fits 64 bits
-product_fits : (a b : ℤ) → neg_ℤ (pos limit) ≤ℤ a → a ≤ℤ pos limit → neg_ℤ (pos limit) ≤ℤ b → b ≤ℤ pos limit → FitsSigned w64 (a *ℤ b)
-product_fits (pos a) (pos b) p q r s = let m : a ≤ limit = omega (arith, ints) in let n : b ≤ limit = omega (arith, ints) in let k : a * b ≤ limit * limit = mul-le-mul m n in omega (arith, ints)
-product_fits (pos a) (negsuc b) p q r s = let m : a ≤ limit = omega (arith, ints) in let n : suc b ≤ limit = omega (arith, ints) in let k : a * suc b ≤ limit * limit = mul-le-mul m n in omega (arith, ints)
-product_fits (negsuc a) (pos b) p q r s = let m : suc a ≤ limit = omega (arith, ints) in let n : b ≤ limit = omega (arith, ints) in let k : suc a * b ≤ limit * limit = mul-le-mul m n in omega (arith, ints)
-product_fits (negsuc a) (negsuc b) p q r s = let m : suc a ≤ limit = omega (arith, ints) in let n : suc b ≤ limit = omega (arith, ints) in let k : suc a * suc b ≤ limit * limit = mul-le-mul m n in omega (arith, ints)
 
 -- a factor that is not negative keeps the order, and a negative one turns it
 times_pos : (x y : ℤ) (n : ℕ) → x ≤ℤ y → (x *ℤ pos n) ≤ℤ (y *ℤ pos n)
@@ -56,13 +47,6 @@ product_low a b c d x y h k m n =
 pub product_high : (a b c d x y : ℤ) → a ≤ℤ x → x ≤ℤ b → c ≤ℤ y → y ≤ℤ d → (x *ℤ y) ≤ℤ greatest (a *ℤ c) (a *ℤ d) (b *ℤ c) (b *ℤ d)
 product_high a b c d x y h k m n =
     within_high (a *ℤ c) (a *ℤ d) (b *ℤ c) (b *ℤ d) (a *ℤ y) (b *ℤ y) (x *ℤ y) (between a b x y h k).high (between_right c d y a m n).high (between_right c d y b m n).high
-
--- numbers that went to their bits and back
-pub product_fits_bits : (a b : ℤ) → FitsSigned w64 a → FitsSigned w64 b → Lies a full → Lies b full → FitsSigned w64 (to_z w64 (of_z w64 a) *ℤ to_z w64 (of_z w64 b))
-product_fits_bits a b f g p q = subst₂ (λ (x y : ℤ). FitsSigned w64 (x *ℤ y)) (sym (to_z-of_z w64 a f)) (sym (to_z-of_z w64 b g)) (product_fits a b p.low p.high q.low q.high)
-
-pub product_back : (a b : ℤ) → FitsSigned w64 a → FitsSigned w64 b → Lies a full → Lies b full → to_z w64 (of_z w64 (to_z w64 (of_z w64 a) *ℤ to_z w64 (of_z w64 b))) ≡ a *ℤ b
-product_back a b f g p q = to_z-of_z w64 _ (product_fits_bits a b f g p q) ∙ ap₂ (λ (x y : ℤ). x *ℤ y) (to_z-of_z w64 a f) (to_z-of_z w64 b g)
 
 -- a function of four numbers
 pub four_same : (h : ℤ → ℤ → ℤ → ℤ → ℤ) (a b c d a' b' c' d' : ℤ) → a ≡ a' → b ≡ b' → c ≡ c' → d ≡ d' → h a b c d ≡ h a' b' c' d'

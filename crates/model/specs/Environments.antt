@@ -1,7 +1,7 @@
 -- Environments: a number for each register, X, Y, Z, U and then #1 to #6.
 use Rattle.std.specs.Prelude.{◌≡◌, ℕ, ◌+◌, Bool, ◌&&◌, List, length, ℤ, pos, neg_ℤ, ◌≤ℤ◌, int_le, slice_index_or}
 use Rattle.model.specs.declared.range.Range.{Range}
-use Rattle.model.specs.declared.side.Position.{Position}
+use Rattle.model.specs.Axes.{Position}
 use Rattle.model.specs.Limits.{limit}
 
 -- how many registers there are, how many of them are axes, and how many parameters

@@ -1,5 +1,6 @@
 pub mod Limits
 pub mod Blocks
+pub mod Axes
 pub mod Sides
 pub mod Environments
 pub mod Values

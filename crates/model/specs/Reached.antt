@@ -2,7 +2,7 @@
 use Rattle.std.specs.Prelude.{◌≡◌, ℕ, ◌+◌, ◌<◌, List, length, slice_index_or}
 use Rattle.model.specs.declared.line.Line.{Line}
 use Rattle.model.specs.declared.range.Range.{Range}
-use Rattle.model.specs.declared.side.Position.{Position}
+use Rattle.model.specs.Axes.{Position}
 use Rattle.model.specs.Environments.{Env, Lies, LegalOf, at, axes, full, position, registers}
 use Rattle.model.specs.Runs.{goes, commands, Steps}
 

@@ -2,19 +2,12 @@
 use Rattle.std.specs.Prelude.{ℕ, zero, suc, Bool, cond, List, [], ◌∷◌, ℤ, pos, ◌+ℤ◌, neg_ℤ, ◌≤ℤ◌, Some, None, Option, int_le}
 use Rattle.model.specs.declared.line.Axis.{Axis}
 use Rattle.model.specs.declared.line.Axis.TheVariants.{X, Y, Z, U}
-use Rattle.model.specs.declared.side.Position.{Position}
+use Rattle.model.specs.Axes.{Position, along}
 use Rattle.model.specs.declared.side.Sign.{Sign}
 use Rattle.model.specs.declared.side.Sign.TheVariants.{Plus as plus, Minus as minus}
 use Rattle.model.specs.declared.side.Factor.{Factor}
 use Rattle.model.specs.declared.side.Factor.TheVariants.{Plus, Zero, Minus}
 use Rattle.model.specs.declared.side.Side.{Side}
-
--- the coordinate of an axis
-abbrev pub along : Axis → Position → ℤ
-along X p = p.x
-along Y p = p.y
-along Z p = p.z
-along U p = p.u
 
 -- the register of an axis
 abbrev pub axis_register : Axis → ℕ

@@ -2,6 +2,7 @@
 
 #![tactic(auto)]
 
+pub mod axes;
 pub mod block;
 pub mod ending;
 pub mod expression;

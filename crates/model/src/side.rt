@@ -1,13 +1,8 @@
-// Positions, and the sides that bound them.
-use crate::line::Axis;
+// The sides that bound positions.
+ghost use Rattle.std.specs.Prelude.{◌≡◌, ◌^◌, ◌<◌, ◌≤◌, ◌+ℤ◌, int_le, unsigned_abs};
+ghost use Rattle.model.specs.Sides.{signed, scaled};
 
-#[derive(Clone, Copy)]
-pub struct Position {
-    pub x: i32,
-    pub y: i32,
-    pub z: i32,
-    pub u: i32,
-}
+use crate::line::Axis;
 
 #[derive(Clone, Copy)]
 pub enum Sign {
@@ -15,11 +10,38 @@ pub enum Sign {
     Minus,
 }
 
+impl Sign {
+    pub fn times(self, n: i64) -> i64
+        requires { unsigned_abs n < 2 ^ 63 }
+        ensures is { result ≡ signed self n }
+        ensures small { unsigned_abs result ≤ unsigned_abs n }
+    {
+        match self {
+            Sign::Plus => n,
+            Sign::Minus => -n,
+        }
+    }
+}
+
 #[derive(Clone, Copy)]
 pub enum Factor {
     Plus,
     Zero,
     Minus,
+}
+
+impl Factor {
+    pub fn times(self, n: i64) -> i64
+        requires { unsigned_abs n < 2 ^ 63 }
+        ensures is { result ≡ scaled self n }
+        ensures small { unsigned_abs result ≤ unsigned_abs n }
+    {
+        match self {
+            Factor::Plus => n,
+            Factor::Zero => 0,
+            Factor::Minus => -n,
+        }
+    }
 }
 
 // The half-space a·v + b·w ≤ c. Where b is zero, w is any axis other than v.
@@ -30,4 +52,13 @@ pub struct Side {
     pub b: Factor,
     pub w: Axis,
     pub c: i32,
+}
+
+// Whether a·v + b·w ≤ c.
+pub fn sum_at_most(a: Sign, v: i64, b: Factor, w: i64, c: i32) -> bool
+    requires v { unsigned_abs v ≤ 2 ^ 31 }
+    requires w { unsigned_abs w ≤ 2 ^ 31 }
+    ensures { result ≡ int_le (signed a v +ℤ scaled b w) c }
+{
+    a.times(v) + b.times(w) <= c as i64
 }

@@ -15,7 +15,8 @@ use Rattle.model.specs.declared.expression.Expression.{Expression}
 use Rattle.model.specs.declared.expression.Expression.TheVariants.{Bare, Apply}
 use Rattle.model.specs.declared.expression.Condition.{Condition}
 use Rattle.model.specs.Environments.{Env, Lies, LegalOf, at, fit, full, named, registers, position}
-use Rattle.model.specs.Sides.{along, axis_register, Holds}
+use Rattle.model.specs.Axes.{along}
+use Rattle.model.specs.Sides.{axis_register, Holds}
 use Rattle.model.specs.Values.{register, evaluate, holds, term as number}
 use Rattle.model.specs.Written.{Written, WrittenTerm, WrittenCondition}
 use Rattle.domain.specs.Lattice.{Lawful, Inside, empty}

@@ -5,7 +5,7 @@ use Rattle.model.specs.declared.ending.Cause.TheVariants.{Arithmetic, Travel}
 use Rattle.model.specs.declared.ending.Ending.{Ending}
 use Rattle.model.specs.declared.ending.Ending.TheVariants.{Ended, Running, Stopped}
 use Rattle.model.specs.declared.line.Line.{Line}
-use Rattle.model.specs.declared.side.Position.{Position}
+use Rattle.model.specs.Axes.{Position}
 use Rattle.model.specs.declared.side.Side.{Side}
 use Rattle.model.specs.Environments.{Env}
 use Rattle.model.specs.Programs.{Closed}

@@ -3,7 +3,7 @@ use Rattle.std.specs.Prelude.{◌≡◌, ℕ, suc, ◌+◌, Bool, true, cond, Li
 use Rattle.model.specs.declared.ending.Ending.{Ending}
 use Rattle.model.specs.declared.ending.Ending.TheVariants.{Ended, Running}
 use Rattle.model.specs.declared.line.Line.{Line}
-use Rattle.model.specs.declared.side.Position.{Position}
+use Rattle.model.specs.Axes.{Position}
 use Rattle.model.specs.declared.side.Side.{Side}
 use Rattle.model.specs.Environments.{Env}
 use Rattle.model.specs.Whole.{Dry}

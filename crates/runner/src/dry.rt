@@ -24,13 +24,10 @@ fn try_step<T: Travel>(run: &mut Run, program: &Program, travel: &T) -> Option<E
             let cause = Cause::Arithmetic;
             Some(Ending::Stopped(Failure { line, cause }))
         }
-        Stepped::Commanded(p) => match lowest_broken(travel, p) {
-            None => None,
-            Some(side) => {
-                let cause = Cause::Travel(side);
-                Some(Ending::Stopped(Failure { line, cause }))
-            }
-        },
+        Stepped::Commanded(p) => {
+            let cause = Cause::Travel(lowest_broken(travel, p)?);
+            Some(Ending::Stopped(Failure { line, cause }))
+        }
     }
 }
 
@@ -55,9 +52,8 @@ pub fn dry<T: Travel>(
 {
     let mut run = Run::begin(travel.home(), values);
     for k in 0..steps {
-        match try_step(&mut run, program, travel) {
-            Some(ending) => return ending,
-            None => {}
+        if let Some(ending) = try_step(&mut run, program, travel) {
+            return ending;
         }
     }
     outlook(&run, program)

@@ -1,5 +1,6 @@
 // A run: the line it stands at, and its registers.
 ghost use Rattle.std.specs.Prelude.{◌≡◌, ◌<◌, length, if◌then◌else◌, OnSome};
+ghost use Rattle.std.specs.Option.{unwrap_or};
 ghost use Rattle.model.specs.Blocks.{block_of};
 ghost use Rattle.model.specs.Environments.{registers, position};
 ghost use Rattle.model.specs.Programs.{Closed};
@@ -10,10 +11,10 @@ ghost use Rattle.runner.specs.Plain.{run_at, PlainStep};
 ghost use Rattle.runner.specs.Steps.{worked, set_if, line_at, line_under, behind, first, went, gone, commanded, step_of};
 
 use crate::value::{meets, value};
+use model::axes::Position;
 use model::expression::{Condition, Value};
 use model::line::Line;
 use model::register::{PARAMETERS, REGISTERS, register_of};
-use model::side::Position;
 use program::table::Program;
 
 #[derive(Clone, Copy)]
@@ -36,44 +37,31 @@ fn worked(registers: &[i32; REGISTERS], v: Option<Value>) -> Option<Option<i32>>
 {
     match v {
         None => Some(None),
-        Some(v) => match value(registers, v) {
-            None => None,
-            Some(x) => Some(Some(x)),
-        },
+        Some(v) => Some(Some(value(registers, v)?)),
     }
 }
 
 fn behind(program: &Program, label: u16) -> usize
     ensures { result ≡ behind (length (held program.now)) (block_of (held program.now) label) }
 {
-    match program.block(label) {
-        None => program.lines().len(),
-        Some(block) => match block.end {
-            None => program.lines().len(),
-            Some(end) => end,
-        },
-    }
+    let end = program.block(label).and_then(|block| block.end);
+    end.unwrap_or(program.lines().len())
 }
 
 fn first(program: &Program, label: u16) -> usize
     ensures { result ≡ first (length (held program.now)) (block_of (held program.now) label) }
 {
-    match program.block(label) {
-        None => program.lines().len(),
-        Some(block) => block.first.saturating_sub(1),
-    }
+    let first = program
+        .block(label)
+        .map(|block| block.first.saturating_sub(1));
+    first.unwrap_or(program.lines().len())
 }
 
 fn line_at(program: &Program, n: usize) -> Option<Line>
     ensures is { result ≡ line_at (held program.now) n }
     ensures within { OnSome result (n < length (held program.now)) }
 {
-    let lines = program.lines();
-    if n < lines.len() {
-        Some(lines[n])
-    } else {
-        None
-    }
+    program.lines().get(n).copied()
 }
 
 impl Run {
@@ -95,40 +83,27 @@ impl Run {
         ensures { result ≡ number (held program.now) self.now.at }
     {
         let count = program.lines().len();
-        match self.at {
-            None => 0,
-            Some(n) => if n < count { n + 1 } else { count },
-        }
+        self.at.map_or(0, |n| if n < count { n + 1 } else { count })
     }
 
     // Whether the run is past the last line.
     pub fn is_past(&self, program: &Program) -> bool
         ensures { result ≡ is_past (held program.now) self.now.at }
     {
-        match self.at {
-            None => true,
-            Some(n) => program.lines().len() <= n,
-        }
+        self.at.is_none_or(|n| program.lines().len() <= n)
     }
 
     fn position(&self) -> Position
         ensures { result ≡ position self.now.registers }
     {
-        Position {
-            x: self.registers[0],
-            y: self.registers[1],
-            z: self.registers[2],
-            u: self.registers[3],
-        }
+        let [x, y, z, u, ..] = self.registers;
+        Position { x, y, z, u }
     }
 
     fn line_under(&self, program: &Program) -> Option<Line>
         ensures { result ≡ line_under (held program.now) self.now.at }
     {
-        match self.at {
-            None => None,
-            Some(n) => line_at(program, n),
-        }
+        line_at(program, self.at?)
     }
 
     // Gives the axis its result, if there is one.
@@ -177,10 +152,11 @@ impl Run {
         }
     }
 
-    fn advance(&mut self, program: &Program) -> Stepped
-        ensures { gone self.new result ≡ step_of (held program.now) self.old }
+    // What a step answers, or none where a value faults.
+    fn advance(&mut self, program: &Program) -> Option<Stepped>
+        ensures { gone self.new (unwrap_or result Stepped.Fault) ≡ step_of (held program.now) self.old }
     {
-        match (self.at, self.line_under(program)) {
+        let answer = match (self.at, self.line_under(program)) {
             (Some(n), Some(Line::Plain | Line::EndIf { .. })) => self.go(n + 1),
             (
                 Some(n),
@@ -190,22 +166,16 @@ impl Run {
                         value: v,
                     },
                 ),
-            ) => match value(&self.registers, v) {
-                None => Stepped::Fault,
-                Some(x) => {
-                    self.registers[register_of(parameter)] = x;
-                    self.go(n + 1)
-                }
-            },
+            ) => {
+                self.registers[register_of(parameter)] = value(&self.registers, v)?;
+                self.go(n + 1)
+            }
             (Some(n), Some(Line::Move { x, y, z, u, .. })) => {
-                let a = worked(&self.registers, x);
-                let b = worked(&self.registers, y);
-                let c = worked(&self.registers, z);
-                let d = worked(&self.registers, u);
-                match (a, b, c, d) {
-                    (Some(x), Some(y), Some(z), Some(u)) => self.travel(n + 1, x, y, z, u),
-                    _ => Stepped::Fault,
-                }
+                let x = worked(&self.registers, x)?;
+                let y = worked(&self.registers, y)?;
+                let z = worked(&self.registers, z)?;
+                let u = worked(&self.registers, u)?;
+                self.travel(n + 1, x, y, z, u)
             }
             (Some(n), Some(Line::While { label, condition })) => {
                 self.turn(program, n + 1, label, condition)
@@ -215,7 +185,8 @@ impl Run {
             }
             (Some(_), Some(Line::EndWhile { label })) => self.go(first(program, label)),
             (_, _) => Stepped::Ended,
-        }
+        };
+        Some(answer)
     }
 
     // One step over the line under the run; in a closed program it is that of the plain run.
@@ -223,6 +194,6 @@ impl Run {
         ensures is { gone self.new result ≡ step_of (held program.now) self.old }
         ensures plain { Closed (held program.now) → PlainStep (held program.now) self.old result self.new }
     {
-        self.advance(program)
+        self.advance(program).unwrap_or(Stepped::Fault)
     }
 }

@@ -1,9 +1,10 @@
 // Values and conditions at the registers of a run.
-ghost use Rattle.std.specs.Prelude.{◌≡◌, ◌*ℤ◌};
+ghost use Rattle.std.specs.Prelude.{◌≡◌};
 ghost use Rattle.model.specs.Values.{term, evaluate, holds};
 ghost use Rattle.runner.specs.Steps.{fitting, value_of};
 
-use model::expression::{Condition, Expression, LIMIT, Op, Rel, Term, Value};
+use model::expression::{Condition, Expression, Term, Value};
+use model::range::fits;
 use model::register::{REGISTERS, register_of};
 
 fn term(registers: &[i32; REGISTERS], t: Term) -> i32
@@ -15,20 +16,16 @@ fn term(registers: &[i32; REGISTERS], t: Term) -> i32
     }
 }
 
-fn product(a: i32, b: i32) -> i64
-    ensures { result ≡ a *ℤ b }
-{
-    a as i64 * b as i64
-}
-
 fn evaluate(registers: &[i32; REGISTERS], x: Expression) -> i64
     ensures { result ≡ evaluate registers.now x }
 {
     match x {
         Expression::Bare(t) => term(registers, t) as i64,
-        Expression::Apply(Op::Add, a, b) => term(registers, a) as i64 + term(registers, b) as i64,
-        Expression::Apply(Op::Sub, a, b) => term(registers, a) as i64 - term(registers, b) as i64,
-        Expression::Apply(Op::Mul, a, b) => product(term(registers, a), term(registers, b)),
+        Expression::Apply(op, a, b) => {
+            let left = term(registers, a) as i64;
+            let right = term(registers, b) as i64;
+            op.apply(left, right)
+        }
     }
 }
 
@@ -36,11 +33,7 @@ fn evaluate(registers: &[i32; REGISTERS], x: Expression) -> i64
 fn fitting(n: i64) -> Option<i32>
     ensures { result ≡ fitting n }
 {
-    if n < -(LIMIT as i64) || n > LIMIT as i64 {
-        None
-    } else {
-        Some(n as i32)
-    }
+    if fits(n) { Some(n as i32) } else { None }
 }
 
 // What a value gives its register, or none where it faults.
@@ -53,14 +46,7 @@ pub fn value(registers: &[i32; REGISTERS], v: Value) -> Option<i32>
 pub fn meets(registers: &[i32; REGISTERS], c: Condition) -> bool
     ensures { result ≡ holds registers.now c }
 {
-    let a = term(registers, c.left);
-    let b = term(registers, c.right);
-    match c.rel {
-        Rel::Eq => a == b,
-        Rel::Ne => a != b,
-        Rel::Lt => a < b,
-        Rel::Le => a <= b,
-        Rel::Gt => a > b,
-        Rel::Ge => a >= b,
-    }
+    let a = term(registers, c.left) as i64;
+    let b = term(registers, c.right) as i64;
+    c.rel.holds(a, b)
 }

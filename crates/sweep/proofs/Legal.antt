@@ -2,7 +2,7 @@
 use Rattle.std.proofs.Common.{◌≡◌, ℕ, suc, ◌+◌, ◌≤◌, true, List, [], ◌∷◌, length, Some, None, arith}
 use Rattle.std.proofs.lemmas.Bool.{and_parts}
 use Rattle.model.specs.declared.range.Range.{Range}
-use Rattle.model.specs.declared.side.Position.{Position}
+use Rattle.model.specs.Axes.{Position}
 use Rattle.model.specs.declared.line.Line.{Line}
 use Rattle.model.specs.Environments.{Env, LegalOf, axes, registers}
 use Rattle.model.specs.Values.{register, result, four, all_fine, Values}

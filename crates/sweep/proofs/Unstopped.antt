@@ -1,6 +1,6 @@
 -- What is safe never stops a dry run.
 use Rattle.std.proofs.Common.{◌≡◌, ℕ, suc, Bool, cond, List, [], ◌∷◌, Some, None, Option, sym, refl, ap, ◌∙◌}
-use Rattle.model.specs.declared.side.Position.{Position}
+use Rattle.model.specs.Axes.{Position}
 use Rattle.model.specs.declared.range.Range.{Range}
 use Rattle.model.specs.declared.side.Side.{Side}
 use Rattle.model.specs.declared.ending.Ending.{Ending}

@@ -2,7 +2,7 @@
 use Rattle.std.proofs.Common.{◌≡◌, ℕ, suc, ◌+◌, ◌<◌, ◌≤◌, true, List, [], ◌∷◌, length, get_or, set, ℤ, Some, None, refl, ap, ◌∙◌, subst, arith}
 use Rattle.std.proofs.lemmas.Int.{ints}
 use Rattle.std.proofs.lemmas.Bool.{and_parts, and_from}
-use Rattle.model.specs.declared.side.Position.{Position}
+use Rattle.model.specs.Axes.{Position}
 use Rattle.model.specs.declared.range.Range.{Range}
 use Rattle.model.specs.Environments.{Env, at, Lies, LegalOf, full, fit, registers, axes, parameters}
 use Rattle.model.specs.Values.{evaluate, result, all_fine, Values}

@@ -2,7 +2,7 @@
 use Rattle.std.specs.Prelude.{◌≡◌, ℕ, ◌<◌, ◌≤◌, false, List, length, take, replicate, ℤ, Some, None, Option, slice_index_or}
 use Rattle.std.specs.List.{AllByRecursion}
 use Rattle.model.specs.declared.expression.Condition.{Condition}
-use Rattle.model.specs.declared.side.Position.{Position}
+use Rattle.model.specs.Axes.{Position}
 use Rattle.model.specs.declared.range.Range.{Range}
 use Rattle.model.specs.declared.side.Side.{Side}
 use Rattle.model.specs.declared.ending.Ending.{Ending}

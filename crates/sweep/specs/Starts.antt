@@ -1,7 +1,7 @@
 -- The state that a sweep starts from: any, narrowed in register order to home and the allowed ranges.
 use Rattle.std.specs.Prelude.{ℕ, suc, List, [], ◌∷◌, ◌++◌}
 use Rattle.model.specs.declared.range.Range.{Range}
-use Rattle.model.specs.declared.side.Position.{Position}
+use Rattle.model.specs.Axes.{Position}
 use Rattle.domain.specs.Lattice.{Lattice, single}
 
 -- each axis at home

@@ -5,7 +5,7 @@ use Rattle.std.proofs.lemmas.Int.{ints}
 use Rattle.std.proofs.lemmas.Bool.{and_parts}
 use Rattle.std.proofs.lemmas.Bool.Decides.{Decides-and, Decides-like}
 use Rattle.model.specs.Limits.{limit}
-use Rattle.model.specs.declared.side.Position.{Position}
+use Rattle.model.specs.Axes.{Position}
 use Rattle.travel.specs.Travels.{Judges, Within, Ordered, Between}
 use Rattle.travel.specs.Gantries.{in_order, lies_in, inside_ends}
 use Rattle.travel.specs.Beams.{gap_fits}

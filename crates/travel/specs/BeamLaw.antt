@@ -5,7 +5,7 @@ use Rattle.std.proofs.ByRecursion.{All-push}
 use Rattle.std.proofs.lemmas.Int.{ints}
 use Rattle.model.specs.Limits.{limit}
 use Rattle.model.specs.Sides.{Holds, AllHold}
-use Rattle.model.specs.declared.side.Position.{Position}
+use Rattle.model.specs.Axes.{Position}
 use Rattle.model.specs.declared.side.Side.{Side}
 use Rattle.travel.specs.declared.beam.Beam.{Beam}
 use Rattle.travel.specs.Travels.{Lawful, Proper}
@@ -48,7 +48,7 @@ gap_proper gap h k = record {
   bound = (omega (arith, ints), omega (arith, ints));
 }
 
-pub beam_lawful : (b : Beam) → Lawful (BeamRegion b) (beam_sides b) b.base.home
+pub beam_lawful : (b : Beam) → Lawful (BeamRegion b) (beam_sides b) b.base.ends.home
 beam_lawful b =
     further_lawful _ (λ p. (p.x +ℤ b.gap) ≤ℤ p.u) _ _ (gap_side b.gap) (gantry_lawful b.base) (lit≤ tt)
     (λ p h. held _ _ _ h) (λ p h. ahead _ _ _ h) b.wide.2 (gap_proper _ b.wide.0 b.wide.1)

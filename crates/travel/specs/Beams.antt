@@ -2,13 +2,14 @@
 use Rattle.std.specs.Prelude.{◌≡◌, Bool, true, false, ◌&&◌, List, [], ◌∷◌, ◌++◌, ℤ, pos, ◌+ℤ◌, neg_ℤ, ◌≤ℤ◌, Ok, Err, Result, int_le}
 use Rattle.model.specs.Limits.{limit}
 use Rattle.model.specs.declared.line.Axis.TheVariants.{X, U}
-use Rattle.model.specs.declared.side.Position.{Position}
+use Rattle.model.specs.Axes.{Position}
+use Rattle.model.specs.declared.axes.Ends.{Ends}
 use Rattle.model.specs.declared.side.Sign.TheVariants.{Plus}
 use Rattle.model.specs.declared.side.Factor.TheVariants.{Minus}
 use Rattle.model.specs.declared.side.Side.{Side}
 use Rattle.travel.specs.declared.beam.Beam.{Beam}
 use Rattle.travel.specs.declared.refusal.TravelRefusal.{TravelRefusal}
-use Rattle.travel.specs.declared.refusal.TravelRefusal.TheVariants.{Ends, Gap}
+use Rattle.travel.specs.declared.refusal.TravelRefusal.TheVariants.{Ends as BadEnds, Gap}
 use Rattle.travel.specs.Gantries.{ends_fit, gantry_sides, GantryRegion}
 
 -- U is ahead of X by the gap
@@ -19,12 +20,10 @@ is_ahead p gap = int_le (p.x +ℤ gap) p.u
 abbrev pub gap_fits : Position → ℤ → Bool
 gap_fits home gap = int_le (pos 1) gap && int_le gap (pos limit) && is_ahead home gap
 
-abbrev pub BeamMade : Position → Position → Position → ℤ → Result Beam TravelRefusal → Type 0
-BeamMade lower home upper gap (Ok b) =
-    (ends_fit lower home upper ≡ true) × (gap_fits home gap ≡ true)
-    × (b.base.lower ≡ lower) × (b.base.home ≡ home) × (b.base.upper ≡ upper) × (b.gap ≡ gap)
-BeamMade lower home upper gap (Err Ends) = ends_fit lower home upper ≡ false
-BeamMade lower home upper gap (Err Gap) = (ends_fit lower home upper ≡ true) × (gap_fits home gap ≡ false)
+abbrev pub BeamMade : Ends → ℤ → Result Beam TravelRefusal → Type 0
+BeamMade e gap (Ok b) = (ends_fit e ≡ true) × (gap_fits e.home gap ≡ true) × (b.base.ends ≡ e) × (b.gap ≡ gap)
+BeamMade e gap (Err BadEnds) = ends_fit e ≡ false
+BeamMade e gap (Err Gap) = (ends_fit e ≡ true) × (gap_fits e.home gap ≡ false)
 
 -- X − U ≤ −gap
 abbrev pub gap_side : ℤ → Side

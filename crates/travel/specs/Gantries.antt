@@ -3,30 +3,30 @@ use Rattle.std.specs.Prelude.{◌≡◌, Bool, true, false, ◌&&◌, List, [], 
 use Rattle.model.specs.Limits.{limit}
 use Rattle.model.specs.declared.line.Axis.{Axis}
 use Rattle.model.specs.declared.line.Axis.TheVariants.{X, Y, Z, U}
-use Rattle.model.specs.declared.side.Position.{Position}
+use Rattle.model.specs.Axes.{Position}
+use Rattle.model.specs.declared.axes.Ends.{Ends}
 use Rattle.model.specs.declared.side.Sign.TheVariants.{Plus, Minus}
 use Rattle.model.specs.declared.side.Factor.TheVariants.{Zero}
 use Rattle.model.specs.declared.side.Side.{Side}
 use Rattle.travel.specs.declared.gantry.Gantry.{Gantry}
 use Rattle.travel.specs.declared.refusal.TravelRefusal.{TravelRefusal}
-use Rattle.travel.specs.declared.refusal.TravelRefusal.TheVariants.{Ends}
+use Rattle.travel.specs.declared.refusal.TravelRefusal.TheVariants.{Ends as BadEnds}
 use Rattle.travel.specs.Travels.{Between}
 
 abbrev pub in_order : ℤ → ℤ → ℤ → Bool
 in_order lo home hi = int_le (neg_ℤ (pos limit)) lo && int_le lo home && int_le home hi && int_le hi (pos limit)
 
 -- on every axis lower ≤ home ≤ upper, within the greatest length
-abbrev pub ends_fit : Position → Position → Position → Bool
-ends_fit lower home upper =
-    in_order lower.x home.x upper.x
-    && in_order lower.y home.y upper.y
-    && in_order lower.z home.z upper.z
-    && in_order lower.u home.u upper.u
+abbrev pub ends_fit : Ends → Bool
+ends_fit e =
+    in_order e.lower.x e.home.x e.upper.x
+    && in_order e.lower.y e.home.y e.upper.y
+    && in_order e.lower.z e.home.z e.upper.z
+    && in_order e.lower.u e.home.u e.upper.u
 
-abbrev pub GantryMade : Position → Position → Position → Result Gantry TravelRefusal → Type 0
-GantryMade lower home upper (Ok g) =
-    (ends_fit lower home upper ≡ true) × (g.lower ≡ lower) × (g.home ≡ home) × (g.upper ≡ upper)
-GantryMade lower home upper (Err e) = (ends_fit lower home upper ≡ false) × (e ≡ Ends)
+abbrev pub GantryMade : Ends → Result Gantry TravelRefusal → Type 0
+GantryMade e (Ok g) = (ends_fit e ≡ true) × (g.ends ≡ e)
+GantryMade e (Err why) = (ends_fit e ≡ false) × (why ≡ BadEnds)
 
 -- the second axis of a side that bounds only one
 abbrev pub other_axis : Axis → Axis
@@ -45,13 +45,13 @@ at_least v lower = record { a = Minus; v = v; b = Zero; w = other_axis v; c = ne
 
 abbrev pub gantry_sides : Gantry → List Side
 gantry_sides g =
-    at_most X g.upper.x ∷ at_least X g.lower.x
-    ∷ at_most Y g.upper.y ∷ at_least Y g.lower.y
-    ∷ at_most Z g.upper.z ∷ at_least Z g.lower.z
-    ∷ at_most U g.upper.u ∷ at_least U g.lower.u ∷ []
+    at_most X g.ends.upper.x ∷ at_least X g.ends.lower.x
+    ∷ at_most Y g.ends.upper.y ∷ at_least Y g.ends.lower.y
+    ∷ at_most Z g.ends.upper.z ∷ at_least Z g.ends.lower.z
+    ∷ at_most U g.ends.upper.u ∷ at_least U g.ends.lower.u ∷ []
 
 abbrev pub GantryRegion : Gantry → Position → Type 0
-GantryRegion g p = Between g.lower p g.upper
+GantryRegion g p = Between g.ends.lower p g.ends.upper
 
 abbrev pub lies_in : ℤ → ℤ → ℤ → Bool
 lies_in lo n hi = int_le lo n && int_le n hi

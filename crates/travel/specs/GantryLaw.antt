@@ -29,7 +29,7 @@ both_proper v lo home hi h = (
   record { axes = different v; bound = (omega (arith, ints), omega (arith, ints)) },
 )
 
-pub gantry_lawful : (g : Gantry) → Lawful (GantryRegion g) (gantry_sides g) g.home
+pub gantry_lawful : (g : Gantry) → Lawful (GantryRegion g) (gantry_sides g) g.ends.home
 gantry_lawful g =
     let x = both_proper X _ _ _ g.x in
     let y = both_proper Y _ _ _ g.y in

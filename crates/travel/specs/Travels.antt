@@ -1,9 +1,9 @@
 -- What makes a travel lawful: its region is exactly where its sides hold, home is in it, and the sides are few and proper.
-use Rattle.std.specs.Prelude.{◌≡◌, ◌*◌, ◌^◌, ◌≤◌, Bool, true, List, length, ℤ, pos, neg_ℤ, ◌≤ℤ◌}
+use Rattle.std.specs.Prelude.{◌≡◌, ◌*◌, ◌≤◌, Bool, true, List, length, ℤ, pos, neg_ℤ, ◌≤ℤ◌}
 use Rattle.std.specs.List.{AllByRecursion}
 use Rattle.model.specs.Limits.{limit}
 use Rattle.model.specs.Sides.{AllHold}
-use Rattle.model.specs.declared.side.Position.{Position}
+use Rattle.model.specs.Axes.{Position}
 use Rattle.model.specs.declared.side.Side.{Side}
 
 -- the answer is true exactly where P holds
@@ -12,10 +12,6 @@ Judges r P = (r ≡ true → P) × (P → r ≡ true)
 
 abbrev pub Within : ℤ → ℤ → ℤ → Type 0
 Within lo n hi = (lo ≤ℤ n) × (n ≤ℤ hi)
-
--- what an i32 and its negation come to
-abbrev pub Small : ℤ → Type 0
-Small n = Within (neg_ℤ (pos (2 ^ 31))) n (pos (2 ^ 31))
 
 -- each coordinate lies between those of two positions
 pub record Between (lower p upper : Position) : Type 0 where

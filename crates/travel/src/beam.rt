@@ -11,5 +11,5 @@ pub mod sides;
 pub struct Beam {
     base: Gantry,
     gap: i32,
-    ghost wide: { (pos 1 ≤ℤ gap) × (gap ≤ℤ pos limit) × ((base.home.x +ℤ gap) ≤ℤ base.home.u) },
+    ghost wide: { (pos 1 ≤ℤ gap) × (gap ≤ℤ pos limit) × ((base.ends.home.x +ℤ gap) ≤ℤ base.ends.home.u) },
 }

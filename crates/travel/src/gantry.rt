@@ -1,18 +1,16 @@
 // The gantry: each axis moves between two ends.
 ghost use Rattle.travel.specs.Travels.{Ordered};
 
-use model::side::Position;
+use model::axes::Ends;
 
 mod ends;
 pub mod sides;
 
 #[derive(Clone, Copy)]
 pub struct Gantry {
-    lower: Position,
-    home: Position,
-    upper: Position,
-    ghost x: { Ordered lower.x home.x upper.x },
-    ghost y: { Ordered lower.y home.y upper.y },
-    ghost z: { Ordered lower.z home.z upper.z },
-    ghost u: { Ordered lower.u home.u upper.u },
+    ends: Ends,
+    ghost x: { Ordered ends.lower.x ends.home.x ends.upper.x },
+    ghost y: { Ordered ends.lower.y ends.home.y ends.upper.y },
+    ghost z: { Ordered ends.lower.z ends.home.z ends.upper.z },
+    ghost u: { Ordered ends.lower.u ends.home.u ends.upper.u },
 }

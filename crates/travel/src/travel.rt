@@ -1,11 +1,12 @@
 // What every travel answers.
 ghost use Rattle.std.specs.Prelude.{◌≡◌, List, length};
 ghost use Rattle.model.specs.Sides.{side_at};
-ghost use Rattle.model.specs.declared.side.Position.{Position};
+ghost use Rattle.model.specs.Axes.{Position};
 ghost use Rattle.model.specs.declared.side.Side.{Side};
 ghost use Rattle.travel.specs.Travels.{Judges, Lawful};
 
-use model::side::{Position, Side};
+use model::axes::Position;
+use model::side::Side;
 
 // A set of positions, and the sides that bound it.
 pub trait Travel {

@@ -11,26 +11,20 @@ use number_sets::sets::Pair;
 pub(crate) fn both(left: Option<Interval>, right: Option<Interval>) -> Option<Pair<Interval>>
     ensures { result ≡ both left right }
 {
-    match left {
-        Some(x) => match right {
-            Some(y) => Some(Pair { left: x, right: y }),
-            None => None,
-        },
-        None => None,
-    }
+    Some(Pair {
+        left: left?,
+        right: right?,
+    })
 }
 
 // The two sides the other way round.
 pub(crate) fn turned(pair: Option<Pair<Interval>>) -> Option<Pair<Interval>>
     ensures { result ≡ turned_all pair }
 {
-    match pair {
-        Some(p) => Some(Pair {
-            left: p.right,
-            right: p.left,
-        }),
-        None => None,
-    }
+    pair.map(|p| Pair {
+        left: p.right,
+        right: p.left,
+    })
 }
 
 fn up_from(lo: i64, v: i64) -> i64

@@ -6,7 +6,7 @@ use crate::interval::Interval;
 use crate::interval::conditions::{both, turned};
 use crate::interval::spans::{made, widened_down, widened_up};
 use model::expression::{LIMIT, Op, Rel};
-use model::range::Range;
+use model::range::{EMPTY, Range};
 use model::side::{Factor, Sign};
 use number_sets::sets::{NumberSet, Pair};
 
@@ -79,12 +79,12 @@ impl NumberSet for Interval {
     }
 
     fn range(self, range: Range) -> Range {
-        match self.narrow(range) {
-            Some(x) => Range {
+        self.narrow(range).map_or(
+            EMPTY,
+            |x| Range {
                 lo: x.lo as i32,
                 hi: x.hi as i32,
             },
-            None => Range { lo: 1, hi: 0 },
-        }
+        )
     }
 }

@@ -1,6 +1,5 @@
 // Sums, differences and products of two intervals.
-ghost use Rattle.std.specs.Prelude.{◌≡◌, ◌*ℤ◌};
-ghost use Rattle.model.specs.Environments.{Lies, full};
+ghost use Rattle.std.specs.Prelude.{◌≡◌};
 ghost use Rattle.intervals.specs.Results.{ends, cut, fits, least, greatest};
 
 use crate::interval::Interval;
@@ -12,13 +11,6 @@ use model::expression::{LIMIT, Op};
 pub(crate) struct Ends {
     pub lo: i64,
     pub hi: i64,
-}
-
-fn product(a: i64, b: i64) -> i64
-    requires { (Lies a full) × (Lies b full) }
-    ensures { result ≡ a *ℤ b }
-{
-    a * b
 }
 
 fn least(a: i64, b: i64, c: i64, d: i64) -> i64
@@ -56,10 +48,10 @@ impl Interval {
     fn products(self, other: Interval) -> Ends
         ensures { result ≡ ends Op.Mul self other }
     {
-        let a = product(self.lo, other.lo);
-        let b = product(self.lo, other.hi);
-        let c = product(self.hi, other.lo);
-        let d = product(self.hi, other.hi);
+        let a = Op::Mul.apply(self.lo, other.lo);
+        let b = Op::Mul.apply(self.lo, other.hi);
+        let c = Op::Mul.apply(self.hi, other.lo);
+        let d = Op::Mul.apply(self.hi, other.hi);
         Ends {
             lo: least(a, b, c, d),
             hi: greatest(a, b, c, d),

@@ -5,8 +5,8 @@ ghost use Rattle.travel.specs.Beams.{is_ahead, gap_fits, BeamMade};
 use crate::beam::Beam;
 use crate::gantry::Gantry;
 use crate::refusal::TravelRefusal;
+use model::axes::{Ends, Position};
 use model::expression::LIMIT;
-use model::side::Position;
 
 // U is ahead of X by the gap.
 pub(crate) fn ahead(p: Position, gap: i32) -> bool
@@ -22,16 +22,11 @@ fn gap_fits(home: Position, gap: i32) -> bool
 }
 
 impl Beam {
-    pub fn new(
-        lower: Position,
-        home: Position,
-        upper: Position,
-        gap: i32,
-    ) -> Result<Beam, TravelRefusal>
-        ensures { BeamMade lower home upper gap result }
+    pub fn new(ends: Ends, gap: i32) -> Result<Beam, TravelRefusal>
+        ensures { BeamMade ends gap result }
     {
-        let base = Gantry::new(lower, home, upper)?;
-        if gap_fits(home, gap) {
+        let base = Gantry::new(ends)?;
+        if gap_fits(ends.home, gap) {
             Ok(Beam { base, gap })
         } else {
             Err(TravelRefusal::Gap)

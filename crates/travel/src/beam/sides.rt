@@ -5,15 +5,16 @@ ghost use Rattle.travel.specs.BeamLaw.{beam_lawful};
 use crate::beam::Beam;
 use crate::beam::gap::ahead;
 use crate::travel::Travel;
+use model::axes::Position;
 use model::line::Axis;
-use model::side::{Factor, Position, Side, Sign};
+use model::side::{Factor, Side, Sign};
 
 impl Travel for Beam {
     ghost region = { BeamRegion };
 
     ghost sides = { beam_sides };
 
-    ghost origin = { λ b. b.base.home };
+    ghost origin = { λ b. b.base.ends.home };
 
     ghost lawful = { λ b. beam_lawful b };
 

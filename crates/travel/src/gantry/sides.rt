@@ -1,16 +1,16 @@
 // The travel of a gantry: two sides for each axis.
 ghost use Rattle.std.specs.Prelude.{◌≡◌, pos, neg_ℤ, ◌≤ℤ◌};
+ghost use Rattle.model.specs.Axes.{along};
 ghost use Rattle.model.specs.Limits.{limit};
-ghost use Rattle.model.specs.Sides.{along};
 ghost use Rattle.travel.specs.Gantries.{other_axis, at_most, at_least, gantry_sides};
 ghost use Rattle.travel.specs.Gantries.{GantryRegion, lies_in, inside_ends};
 ghost use Rattle.travel.specs.GantryLaw.{gantry_lawful};
 
 use crate::gantry::Gantry;
-use crate::side::coordinate;
 use crate::travel::Travel;
+use model::axes::Position;
 use model::line::Axis;
-use model::side::{Factor, Position, Side, Sign};
+use model::side::{Factor, Side, Sign};
 
 // The second axis of a side that only bounds v.
 fn other(v: Axis) -> Axis
@@ -50,8 +50,8 @@ fn at_least(v: Axis, lower: i32) -> Side
 fn lies(v: Axis, lower: Position, p: Position, upper: Position) -> bool
     ensures { result ≡ lies_in (along v lower) (along v p) (along v upper) }
 {
-    let at = coordinate(v, p);
-    coordinate(v, lower) <= at && at <= coordinate(v, upper)
+    let n = p.get(v);
+    lower.get(v) <= n && n <= upper.get(v)
 }
 
 fn inside_ends(lower: Position, p: Position, upper: Position) -> bool
@@ -69,7 +69,7 @@ impl Travel for Gantry {
 
     ghost sides = { gantry_sides };
 
-    ghost origin = { λ g. g.home };
+    ghost origin = { λ g. g.ends.home };
 
     ghost lawful = { λ g. gantry_lawful g };
 
@@ -79,23 +79,23 @@ impl Travel for Gantry {
 
     fn side(&self, n: usize) -> Option<Side> {
         match n {
-            0 => Some(at_most(Axis::X, self.upper.x)),
-            1 => Some(at_least(Axis::X, self.lower.x)),
-            2 => Some(at_most(Axis::Y, self.upper.y)),
-            3 => Some(at_least(Axis::Y, self.lower.y)),
-            4 => Some(at_most(Axis::Z, self.upper.z)),
-            5 => Some(at_least(Axis::Z, self.lower.z)),
-            6 => Some(at_most(Axis::U, self.upper.u)),
-            7 => Some(at_least(Axis::U, self.lower.u)),
+            0 => Some(at_most(Axis::X, self.ends.upper.x)),
+            1 => Some(at_least(Axis::X, self.ends.lower.x)),
+            2 => Some(at_most(Axis::Y, self.ends.upper.y)),
+            3 => Some(at_least(Axis::Y, self.ends.lower.y)),
+            4 => Some(at_most(Axis::Z, self.ends.upper.z)),
+            5 => Some(at_least(Axis::Z, self.ends.lower.z)),
+            6 => Some(at_most(Axis::U, self.ends.upper.u)),
+            7 => Some(at_least(Axis::U, self.ends.lower.u)),
             _ => None,
         }
     }
 
     fn home(&self) -> Position {
-        self.home
+        self.ends.home
     }
 
     fn inside(&self, p: Position) -> bool {
-        inside_ends(self.lower, p, self.upper)
+        inside_ends(self.ends.lower, p, self.ends.upper)
     }
 }

@@ -1,13 +1,6 @@
-use Rattle.std.proofs.Common.{◌∙◌, arith}
+use Rattle.std.proofs.Common.{◌∙◌}
 use Rattle.congruences.proofs.Meetings.{meets}
-use Rattle.congruences.specs.Proper.{bounded}
 use Rattle.congruences.proofs.commons.meeting.Goals as goal
-
-pub solve-requires : goal.solve-requires
-solve-requires c =
-    let x = (bounded c.args.x).small in let y = (bounded c.args.y).small in
-    let g = c.gap.ensures.below in
-    (omega arith, (omega arith, (c.requires, omega arith)))
 
 pub returns : goal.returns
 returns c = record {

@@ -24,7 +24,7 @@ loop-k-preserved g c = λ h.
     let e0 = c.begin-run.result.registers in
     let more : c.args.steps - c.loop-k.k ≡ suc (c.args.steps - (c.loop-k.k + 1)) = omega arith in
     let way = subst (λ (n : ℕ). UnderWay lines sides c.args.steps n e0 c.loop-k.run) more (c.loop-k.invariant h) in
-    goes_on lines sides c.args.steps e0 _ _ _ way (c.in-None.ensures h)
+    goes_on lines sides c.args.steps e0 _ _ _ way (c.in_default.ensures h)
 
 pub returns : goal.returns
 returns g c = λ h.

@@ -8,22 +8,17 @@ use Rattle.travel.proofs.side.lowest_broken.Goals as goal
 pub returns-then-not-holds : goal.returns-then-not-holds
 returns-then-not-holds g c =
     let ss = g.T.Travel.sides c.args.travel.now in
-    let f = found (kept c.args.p) ss c.loop-n.n _ c.in-Some.ensures c.if-not-holds.ensures in
+    let f = found (kept c.args.p) ss c.loop-n.n _ c.in_ok-side.ensures c.if-not-holds.ensures in
     sym (c.loop-n.invariant ∙ f)
 
-pub returns-in-None : goal.returns-in-None
-returns-in-None g c =
+pub returns-in_err-side : goal.returns-in_err-side
+returns-in_err-side g c =
     let ss = g.T.Travel.sides c.args.travel.now in
-    sym (c.loop-n.invariant ∙ spent (kept c.args.p) ss c.loop-n.n c.in-None.ensures)
+    c.from_residual.ensures ∙ sym (c.loop-n.invariant ∙ spent (kept c.args.p) ss c.loop-n.n c.in_err-side.ensures)
 
 pub loop-n-preserved : goal.loop-n-preserved
 loop-n-preserved g c =
     let ss = g.T.Travel.sides c.args.travel.now in
     c.loop-n.invariant
-    ∙ passed (kept c.args.p) ss c.loop-n.n _ c.in-Some.ensures c.if-not-holds.ensures
+    ∙ passed (kept c.args.p) ss c.loop-n.n _ c.in_ok-side.ensures c.if-not-holds.ensures
 
-pub returns : goal.returns
-returns g c =
-    let ss = g.T.Travel.sides c.args.travel.now in
-    let h : length ss ≤ c.loop-n.n = omega (arith, c.side_count-n-end.ensures) in
-    sym (c.loop-n.invariant ∙ at_drop_all (lowest (kept c.args.p) c.loop-n.n) ss c.loop-n.n h)

@@ -1,14 +1,9 @@
-use Rattle.std.proofs.Common.{Some, None, refl}
-use Rattle.domain.specs.Lattice.{empty}
-use Rattle.congruences.specs.Narrows.{found_of}
+use Rattle.std.proofs.Common.{◌≡◌, sym, subst, rules}
+use Rattle.congruences.specs.Ranges.{ranged, Found}
+use Rattle.congruences.specs.Narrows.{ranged_found}
 use Rattle.congruences.proofs.congruence.Congruence.range_in.Goals as goal
 
-pub returns-in-Some : goal.returns-in-Some
-returns-in-Some c =
-    let f = found_of c.args.self c.args.range c.in-Some.ends (Some c.in-Some.ends) c.in-Some.ensures refl in
-    record { value = f.0; found = f.1 }
-
-pub returns-in-None : goal.returns-in-None
-returns-in-None c =
-    let f = found_of c.args.self c.args.range empty None c.in-None.ensures refl in
-    record { value = f.0; found = f.1 }
+pub returns-clause-found : goal.returns-clause-found
+returns-clause-found c =
+    let v : c.unwrap_or.result ≡ ranged c.args.self c.args.range = search rules in
+    subst (Found c.args.self c.args.range) (sym v) (ranged_found c.args.self c.args.range)

@@ -2,9 +2,6 @@ use Rattle.std.proofs.Common.{◌+ℤ◌, ◌-ℤ◌, arith, w64, SFits}
 use Rattle.std.proofs.lemmas.Int.{ints, to_z-of_z}
 use Rattle.intervals.proofs.interval.Interval.below.Goals as goal
 
-pub overflow_add-self : goal.overflow_add-self
-overflow_add-self c = let l = c.requires.0 in let h = c.requires.1 in omega (arith, ints)
-
 pub returns : goal.returns
 returns c =
     let l = c.requires.0 in

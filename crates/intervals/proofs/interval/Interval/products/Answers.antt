@@ -3,20 +3,8 @@ use Rattle.std.proofs.lemmas.Int.{to_z-of_z}
 use Rattle.intervals.specs.Results.{least, greatest}
 use Rattle.intervals.specs.Same.{ends_same}
 use Rattle.intervals.specs.Products.{four_same}
-use Rattle.intervals.proofs.Bits.{lo_lies, hi_lies, lies_fits, back_lies}
+use Rattle.intervals.proofs.Bits.{lo_lies, hi_lies, lies_fits}
 use Rattle.intervals.proofs.interval.Interval.products.Goals as goal
-
-pub product-a-requires : goal.product-a-requires
-product-a-requires c = (back_lies _ (lo_lies c.args.self), back_lies _ (lo_lies c.args.other))
-
-pub product-b-requires : goal.product-b-requires
-product-b-requires c = (back_lies _ (lo_lies c.args.self), back_lies _ (hi_lies c.args.other))
-
-pub product-c-requires : goal.product-c-requires
-product-c-requires c = (back_lies _ (hi_lies c.args.self), back_lies _ (lo_lies c.args.other))
-
-pub product-d-requires : goal.product-d-requires
-product-d-requires c = (back_lies _ (hi_lies c.args.self), back_lies _ (hi_lies c.args.other))
 
 pub returns : goal.returns
 returns c =
@@ -24,16 +12,16 @@ returns c =
     let self-hi : SFits w64 c.args.self.hi = lies_fits _ (hi_lies c.args.self) in
     let other-lo : SFits w64 c.args.other.lo = lies_fits _ (lo_lies c.args.other) in
     let other-hi : SFits w64 c.args.other.hi = lies_fits _ (hi_lies c.args.other) in
-    let fa : SFits w64 c.product-a.result = record { sfits = c.product-a.type_inv } in
-    let fb : SFits w64 c.product-b.result = record { sfits = c.product-b.type_inv } in
-    let fc : SFits w64 c.product-c.result = record { sfits = c.product-c.type_inv } in
-    let fd : SFits w64 c.product-d.result = record { sfits = c.product-d.type_inv } in
+    let fa : SFits w64 c.apply-a.result = record { sfits = c.apply-a.type_inv } in
+    let fb : SFits w64 c.apply-b.result = record { sfits = c.apply-b.type_inv } in
+    let fc : SFits w64 c.apply-c.result = record { sfits = c.apply-c.type_inv } in
+    let fd : SFits w64 c.apply-d.result = record { sfits = c.apply-d.type_inv } in
     let fl : SFits w64 c.least.result = record { sfits = c.least.type_inv } in
     let fg : SFits w64 c.greatest.result = record { sfits = c.greatest.type_inv } in
-    let a = simp to_z-of_z at c.product-a.ensures in
-    let b = simp to_z-of_z at c.product-b.ensures in
-    let d = simp to_z-of_z at c.product-c.ensures in
-    let e = simp to_z-of_z at c.product-d.ensures in
+    let a = simp to_z-of_z at c.apply-a.ensures in
+    let b = simp to_z-of_z at c.apply-b.ensures in
+    let d = simp to_z-of_z at c.apply-c.ensures in
+    let e = simp to_z-of_z at c.apply-d.ensures in
     ends_same _ _
     (to_z-of_z w64 c.least.result fl ∙ ((simp to_z-of_z at c.least.ensures) ∙ four_same least _ _ _ _ _ _ _ _ a b d e))
     (to_z-of_z w64 c.greatest.result fg ∙ ((simp to_z-of_z at c.greatest.ensures) ∙ four_same greatest _ _ _ _ _ _ _ _ a b d e))

@@ -5,22 +5,11 @@ use Rattle.std.proofs.lemmas.Int.{to_z-of_z}
 use Rattle.travel.proofs.Orders.{gap_wide}
 use Rattle.travel.proofs.beam.Beam.new.Goals as goal
 
-pub returns-in_err-base : goal.returns-in_err-base
-returns-in_err-base c =
-    let p = err_from_is_err_and c.from_residual.result c.from_residual.ensures.1 in
-    rw (p.1, p.2, c.in_err-base.ensures.1) c.in_err-base.ensures.0
-
 pub invariant_of-result : goal.invariant_of-result
 invariant_of-result c =
     let f : SFits w32 c.args.gap = search rules in
-    let w = gap_wide c.args.home c.args.gap (sym (simp to_z-of_z at c.if-gap_fits.ensures)) in
-    simp (to_z-of_z, c.in_ok-base.ensures.2) (record { wide = w })
-
-pub returns-then-gap_fits : goal.returns-then-gap_fits
-returns-then-gap_fits c =
-    let f : SFits w32 c.args.gap = search rules in
-    let a = c.in_ok-base.ensures in
-    simp to_z-of_z (a.0, sym (simp to_z-of_z at c.if-gap_fits.ensures), a.1, a.2, a.3, refl)
+    let w = gap_wide c.args.ends.home c.args.gap (sym (simp to_z-of_z at c.if-gap_fits.ensures)) in
+    simp (to_z-of_z, c.in_ok-base.ensures.1) (record { wide = w })
 
 pub returns-else-gap_fits : goal.returns-else-gap_fits
 returns-else-gap_fits c =
