@@ -1,5 +1,5 @@
 -- A line put into a table: the table still agrees with its lines, and what is answered.
-use Rattle.std.proofs.Common.{◌≡◌, ℕ, ◌+◌, ◌<◌, true, false, leb, [], ◌∷◌, ◌++◌, length, get_or, set, is_some, is_ok, Some, None, Ok, Err, Option, sym, ap, ◌∙◌, arith}
+use Rattle.std.proofs.Common.{◌≡◌, ℕ, ◌+◌, ◌<◌, true, false, leb, [], ◌∷◌, ◌++◌, length, get_or, set, is_some, is_ok, Some, None, Ok, Option, sym, ap, ◌∙◌, arith}
 use mathlib.Core.Logic.{∥∥₁_map}
 use Rattle.std.proofs.lemmas.Bool.{lt-leb}
 use Rattle.model.specs.declared.expression.Condition.{Condition}
@@ -8,7 +8,6 @@ use Rattle.model.specs.declared.block.BlockKind.{BlockKind}
 use Rattle.model.specs.declared.block.Role.{Role}
 use Rattle.model.specs.declared.block.Role.TheVariants.{Opens, Ends, Neither}
 use Rattle.model.specs.Blocks.{role_of, open_blocks, labels, block_number}
-use Rattle.program.specs.declared.refusal.TableRefusal.TheVariants.{Blocks}
 use Rattle.program.specs.declared.table.Program.{Program}
 use Rattle.program.specs.Refusals.{max_lines, max_blocks, role_answer, push_answer, all_taken}
 use Rattle.program.proofs.Nested.{taken_more}
@@ -39,9 +38,6 @@ module _ (p : Program) (x : Line) where
 module _ (p : Program) (k : BlockKind) (l : ℕ) (c : Condition) (r : Option ℕ) (q : r ≡ block_number (held p) l) (none : is_some r ≡ false) where
   new : is_some (block_number (held p) l) ≡ false
   new = ap is_some (sym q) ∙ none
-
-  pub says_many : leb max_blocks (length (held_blocks p)) ≡ true → Err Blocks ≡ role_answer (open_blocks (held p)) (labels (held p)) (Opens k l c)
-  says_many h = rw (new, sym (block_total p), h)
 
   pub says_opened : leb max_blocks (length (held_blocks p)) ≡ false → Ok tt ≡ role_answer (open_blocks (held p)) (labels (held p)) (Opens k l c)
   says_opened h = rw (new, sym (block_total p), h)

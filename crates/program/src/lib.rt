@@ -2,6 +2,6 @@
 
 #![tactic(auto)]
 
-pub mod rack;
+mod rack;
 pub mod refusal;
 pub mod table;

@@ -6,7 +6,7 @@ use std::alloc::AllocError;
 mod items;
 
 // The first `count` of the places are held.
-pub struct Rack<T, const N: usize> {
+pub(crate) struct Rack<T, const N: usize> {
     places: [T; N],
     count: usize,
     ghost within: { count ≤ N },
