@@ -12,6 +12,7 @@ use std::io::Read;
 fn first_input(text: &[u8]) -> Option<(&[u8], &[u8])>
     ensures { IfSome result (λ p. length p.1.now < length text.now) }
 {
+    // Not a `for`: the answer is cut where the line that is looked at begins.
     let mut rest = text;
     while let Some((line, more)) = first_line(rest) {
         if line == b"----".as_slice() {
@@ -25,6 +26,7 @@ fn first_input(text: &[u8]) -> Option<(&[u8], &[u8])>
 fn main(rt: HostRuntime) -> anyhow::Result<()> {
     let mut bytes = Vec::new(rt.alloc());
     rt.stdin().read_to_end(&mut bytes)?;
+    // Each input is cut off by the marker behind it, so what is left is handed on.
     let mut rest = bytes.as_slice();
     while let Some((input, more)) = first_input(rest) {
         let report = report_on(input);

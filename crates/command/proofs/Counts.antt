@@ -1,5 +1,6 @@
 -- Exactly so many numbers, read one after the other.
-use Rattle.std.proofs.Common.{◌≡◌, ℕ, suc, ◌+◌, ◌-◌, ◌<◌, ◌≤◌, List, [], ◌∷◌, ◌++◌, length, take, drop, set, ℤ, Some, None, Option, sym, refl, ap, ◌∙◌, append_assoc, arith, length-set}
+use Rattle.std.proofs.Common.{◌≡◌, ℕ, suc, ◌+◌, ◌-◌, ◌<◌, ◌≤◌, Bool, true, false, cond, eqb, List, [], ◌∷◌, ◌++◌, length, take, drop, set, ℤ, Some, None, Option, sym, refl, ap, ◌∙◌, append_assoc, arith, length-set}
+use Rattle.std.proofs.lemmas.Bool.{eqb-true, eqb-false}
 use Rattle.std.proofs.lemmas.List.{take_more_set, take_all, append-nil}
 use Rattle.words.specs.Cuts.{until}
 use Rattle.command.specs.Words.{words_of, arguments}
@@ -55,8 +56,7 @@ module _ (n i : ℕ) (text rest : List ℕ) (vs : List ℤ) (r : Read n i text r
       let none : n - i ≡ 0 = omega arith in
       r.so_far ∙ ap (λ k. prepend (take i vs) (numbers_of k (arguments rest))) none ∙ ap (λ xs. prepend xs (numbers_of 0 (arguments rest))) (take_all i vs (omega arith))
 
-  pub all_read : n ≤ i → length rest ≡ 0 → Some vs ≡ numbers_of n (arguments text)
-  all_read le none = sym (at_end le ∙ ap (λ ws. prepend vs (numbers_of 0 ws)) (no_argument rest none) ∙ ap Some (append-nil vs))
-
-  pub too_many : n ≤ i → (length rest ≡ 0 → ⊥) → None ≡ numbers_of n (arguments text)
-  too_many le some = sym (at_end le ∙ some_argument (λ ws. prepend vs (numbers_of 0 ws)) None (λ w ws. refl) rest some)
+  -- all are read, if nothing is left then
+  pub whole_if : n ≤ i → (b : Bool) → b ≡ eqb (length rest) 0 → cond b (Some vs) None ≡ numbers_of n (arguments text)
+  whole_if le true e = sym (at_end le ∙ ap (λ ws. prepend vs (numbers_of 0 ws)) (no_argument rest (eqb-true _ _ (sym e))) ∙ ap Some (append-nil vs))
+  whole_if le false e = sym (at_end le ∙ some_argument (λ ws. prepend vs (numbers_of 0 ws)) None (λ w ws. refl) rest (eqb-false _ _ (sym e)))

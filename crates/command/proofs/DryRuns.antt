@@ -1,8 +1,6 @@
 -- Seven numbers as six values and a count of steps.
-use Rattle.std.proofs.Common.{◌≡◌, ℕ, zero, suc, ◌<◌, false, List, [], ◌∷◌, length, take, drop, ℤ, pos, negsuc, nat_abs, Some, None, Option, sym, refl, ap, ◌∙◌, arith}
-use lib.Signed.{lt_z}
+use Rattle.std.proofs.Common.{◌≡◌, ℕ, zero, suc, ◌<◌, List, [], ◌∷◌, length, take, drop, ℤ, pos, Some, None, Option, sym, refl, ap, ◌∙◌, arith}
 use Rattle.std.proofs.lemmas.List.{drop_more}
-use Rattle.std.proofs.lemmas.Bool.{true≢false}
 use Rattle.model.specs.Environments.{at}
 use Rattle.words.specs.Numbers.{number_of}
 use Rattle.command.specs.Numbers.{put, numbers_of}
@@ -30,11 +28,7 @@ six ns h =
     let d5 : drop 5 ns ≡ at ns 5 ∷ drop 6 ns = drop_more ns 5 (pos 0) (omega arith) in
     ap (take 6) d0 ∙ rw (d1, d2, d3, d4, d5)
 
-counted : (values : List ℤ) (z : ℤ) → lt_z z (pos 0) ≡ false → dry values (nat_abs z) ≡ with_steps values z
-counted values (pos n) h = refl
-counted values (negsuc n) h = absurd (true≢false h)
-
-pub dries : (ws : List (List ℕ)) (ns : List ℤ) → Some ns ≡ numbers_of 7 ws → lt_z (at ns 6) (pos 0) ≡ false → dry (at ns 0 ∷ at ns 1 ∷ at ns 2 ∷ at ns 3 ∷ at ns 4 ∷ at ns 5 ∷ []) (nat_abs (at ns 6)) ≡ as_dry (numbers_of 7 ws)
-dries ws ns e h =
+pub dries : (ws : List (List ℕ)) (ns : List ℤ) (k : ℕ) → Some ns ≡ numbers_of 7 ws → pos k ≡ at ns 6 → Some (dry (at ns 0 ∷ at ns 1 ∷ at ns 2 ∷ at ns 3 ∷ at ns 4 ∷ at ns 5 ∷ []) k) ≡ as_dry (numbers_of 7 ws)
+dries ws ns k e h =
     let long : length ns ≡ 7 = so_many 7 ws ns e in
-    ap (λ xs. dry xs (nat_abs (at ns 6))) (sym (six ns (omega arith))) ∙ counted (take 6 ns) (at ns 6) h ∙ ap as_dry e
+    ap (λ xs. Some (dry xs k)) (sym (six ns (omega arith))) ∙ ap (with_steps (take 6 ns)) h ∙ ap as_dry e

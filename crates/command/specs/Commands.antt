@@ -1,10 +1,11 @@
 -- What a line asks for: its first word chooses, and the words after it must be exactly so many numbers.
 use Rattle.std.specs.Prelude.{ℕ, ◌+◌, List, [], ◌∷◌, length, take, drop, ℤ, pos, negsuc, Some, None, Option}
+use Rattle.model.specs.declared.range.Range.{Range}
 use Rattle.model.specs.Axes.{Position}
 use Rattle.model.specs.Environments.{at, position, parameters}
 use Rattle.command.specs.declared.command.Command.{Command}
 use Rattle.command.specs.declared.word.Word.{Word}
-use Rattle.command.specs.declared.word.Word.TheVariants.{BenchGantry, BenchBeam, Gantry, Beam, Line, Allow, Wipe, Dry, Other}
+use Rattle.command.specs.declared.word.Word.TheVariants.{BenchGantry, BenchBeam, Gantry, Beam, Line, Allow, Wipe, Dry}
 use Rattle.command.specs.Words.{words_of, word_of}
 use Rattle.command.specs.Numbers.{numbers_of}
 
@@ -15,10 +16,9 @@ pub data Meant : Type 0 where
   gantry : (lower upper home : Position) → Meant
   beam : (lower upper home : Position) (gap : ℤ) → Meant
   line : (text : List ℕ) → Meant
-  allow : (parameter low high : ℤ) → Meant
+  allow : (parameter : ℤ) (range : Range) → Meant
   wipe : Meant
   dry : (values : List ℤ) (steps : ℕ) → Meant
-  bad : Meant
 
 abbrev pub meant : Command → Meant
 meant Command.BenchGantry = bench_gantry
@@ -26,57 +26,60 @@ meant Command.BenchBeam = bench_beam
 meant (Command.Gantry lower upper home) = gantry lower upper home
 meant (Command.Beam lower upper home gap) = beam lower upper home gap
 meant (Command.Line text) = line text.now
-meant (Command.Allow parameter low high) = allow parameter low high
+meant (Command.Allow parameter range) = allow parameter range
 meant Command.Wipe = wipe
 meant (Command.Dry values steps) = dry values steps
-meant Command.Bad = bad
 
 -- lower X Y Z U, upper X Y Z U, home X Y Z U
-abbrev pub as_gantry : Option (List ℤ) → Meant
-as_gantry None = bad
-as_gantry (Some ns) = gantry (position ns) (position (drop 4 ns)) (position (drop 8 ns))
+abbrev pub as_gantry : Option (List ℤ) → Option Meant
+as_gantry None = None
+as_gantry (Some ns) = Some (gantry (position ns) (position (drop 4 ns)) (position (drop 8 ns)))
 
 -- the same and then the gap
-abbrev pub as_beam : Option (List ℤ) → Meant
-as_beam None = bad
-as_beam (Some ns) = beam (position ns) (position (drop 4 ns)) (position (drop 8 ns)) (at ns 12)
+abbrev pub as_beam : Option (List ℤ) → Option Meant
+as_beam None = None
+as_beam (Some ns) = Some (beam (position ns) (position (drop 4 ns)) (position (drop 8 ns)) (at ns 12))
 
 -- parameter, low, high
-abbrev pub as_allow : Option (List ℤ) → Meant
-as_allow None = bad
-as_allow (Some ns) = allow (at ns 0) (at ns 1) (at ns 2)
+abbrev pub as_allow : Option (List ℤ) → Option Meant
+as_allow None = None
+as_allow (Some ns) = Some (allow (at ns 0) (record { lo = at ns 1; hi = at ns 2 }))
 
 -- a count of steps is not negative
-abbrev pub with_steps : List ℤ → ℤ → Meant
-with_steps values (pos n) = dry values n
-with_steps values (negsuc n) = bad
+abbrev pub with_steps : List ℤ → ℤ → Option Meant
+with_steps values (pos n) = Some (dry values n)
+with_steps values (negsuc n) = None
 
 -- six values and a count of steps
-abbrev pub as_dry : Option (List ℤ) → Meant
-as_dry None = bad
+abbrev pub as_dry : Option (List ℤ) → Option Meant
+as_dry None = None
 as_dry (Some ns) = with_steps (take parameters ns) (at ns parameters)
 
 -- no word follows
-abbrev pub alone : Meant → List (List ℕ) → Meant
-alone m [] = m
-alone m (w ∷ ws) = bad
+abbrev pub alone : Meant → List (List ℕ) → Option Meant
+alone m [] = Some m
+alone m (w ∷ ws) = None
 
 -- the first word, the words after it, and the text after one blank
-abbrev pub chosen : Word → List (List ℕ) → List ℕ → Meant
+abbrev pub chosen : Word → List (List ℕ) → List ℕ → Option Meant
 chosen BenchGantry ws text = alone bench_gantry ws
 chosen BenchBeam ws text = alone bench_beam ws
 chosen Gantry ws text = as_gantry (numbers_of 12 ws)
 chosen Beam ws text = as_beam (numbers_of 13 ws)
-chosen Line ws text = line text
+chosen Line ws text = Some (line text)
 chosen Allow ws text = as_allow (numbers_of 3 ws)
 chosen Wipe ws text = alone wipe ws
 chosen Dry ws text = as_dry (numbers_of 7 ws)
-chosen Other ws text = bad
+
+abbrev pub asked : Option Word → List (List ℕ) → List ℕ → Option Meant
+asked None ws text = None
+asked (Some w) ws text = chosen w ws text
 
 -- the first word of a text, and the others
-abbrev pub by_words : List (List ℕ) → List ℕ → Meant
-by_words [] bs = bad
-by_words (w ∷ ws) bs = chosen (word_of w) ws (drop (length w + 1) bs)
+abbrev pub by_words : List (List ℕ) → List ℕ → Option Meant
+by_words [] bs = None
+by_words (w ∷ ws) bs = asked (word_of w) ws (drop (length w + 1) bs)
 
-abbrev pub command_of : List ℕ → Meant
+-- the command that a line is, if it is one
+abbrev pub command_of : List ℕ → Option Meant
 command_of bs = by_words (words_of bs) bs

@@ -1,8 +1,8 @@
 -- The words of a line: they are separated by exactly one blank. The first says what is asked.
-use Rattle.std.specs.Prelude.{ℕ, cond, List, [], ◌∷◌, codes, ◌==◌}
+use Rattle.std.specs.Prelude.{ℕ, cond, List, [], ◌∷◌, Some, None, codes, Option, ◌==◌}
 use Rattle.std.specs.Str.{bytes_eq}
 use Rattle.command.specs.declared.word.Word.{Word}
-use Rattle.command.specs.declared.word.Word.TheVariants.{BenchGantry, BenchBeam, Gantry, Beam, Line, Allow, Wipe, Dry, Other}
+use Rattle.command.specs.declared.word.Word.TheVariants.{BenchGantry, BenchBeam, Gantry, Beam, Line, Allow, Wipe, Dry}
 
 -- a byte in front of the first word
 abbrev pub before : ℕ → List (List ℕ) → List (List ℕ)
@@ -15,16 +15,16 @@ words_of [] = [] ∷ []
 words_of (b ∷ bs) = cond (b == 32) ([] ∷ words_of bs) (before b (words_of bs))
 
 -- command words are written in small letters exactly
-abbrev pub word_of : List ℕ → Word
+abbrev pub word_of : List ℕ → Option Word
 word_of w =
-    cond (bytes_eq w (codes "benchgantry")) BenchGantry
-    (cond (bytes_eq w (codes "benchbeam")) BenchBeam
-    (cond (bytes_eq w (codes "gantry")) Gantry
-    (cond (bytes_eq w (codes "beam")) Beam
-    (cond (bytes_eq w (codes "line")) Line
-    (cond (bytes_eq w (codes "allow")) Allow
-    (cond (bytes_eq w (codes "wipe")) Wipe
-    (cond (bytes_eq w (codes "dry")) Dry Other)))))))
+    cond (bytes_eq w (codes "benchgantry")) (Some BenchGantry)
+    (cond (bytes_eq w (codes "benchbeam")) (Some BenchBeam)
+    (cond (bytes_eq w (codes "gantry")) (Some Gantry)
+    (cond (bytes_eq w (codes "beam")) (Some Beam)
+    (cond (bytes_eq w (codes "line")) (Some Line)
+    (cond (bytes_eq w (codes "allow")) (Some Allow)
+    (cond (bytes_eq w (codes "wipe")) (Some Wipe)
+    (cond (bytes_eq w (codes "dry")) (Some Dry) None)))))))
 
 -- ---- for the parts of the reading
 -- the words of what follows the first word, each after one blank; where there is no blank, one that is empty

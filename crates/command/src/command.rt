@@ -9,14 +9,16 @@
 //     wipe
 //     dry N*7              six values and a count of steps, which is not negative
 //
-// Anything else is a bad command. Command words are written in small letters exactly.
-ghost use Rattle.std.specs.Prelude.{◌≡◌, drop};
+// Anything else is no command. Command words are written in small letters exactly.
+ghost use Rattle.std.specs.Prelude.{◌≡◌, ◌+◌, ◌≤◌, length, drop, option_map};
+ghost use Rattle.model.specs.Environments.{position};
 ghost use Rattle.command.specs.Words.{arguments};
 ghost use Rattle.command.specs.Numbers.{numbers_of};
-ghost use Rattle.command.specs.Commands.{meant, as_gantry, as_beam, as_allow, as_dry, alone, command_of};
+ghost use Rattle.command.specs.Commands.{meant, as_gantry, as_beam, as_allow, as_dry, alone, chosen, command_of};
 
 use crate::numbers::numbers;
 use crate::word::{Word, word_of};
+use model::range::Range;
 use model::register::PARAMETERS;
 use model::side::Position;
 use words::len_until;
@@ -39,101 +41,69 @@ pub enum Command<'a> {
     Line(&'a [u8]),
     Allow {
         parameter: i32,
-        low: i32,
-        high: i32,
+        range: Range,
     },
     Wipe,
     Dry {
         values: [i32; PARAMETERS],
         steps: u32,
     },
-    Bad,
 }
 
-fn gantry(text: &[u8]) -> Command
-    ensures { meant result ≡ as_gantry (numbers_of 12 (arguments text.now)) }
+// The position whose coordinates begin at this index.
+fn position_at(numbers: &[i32], first: usize) -> Position
+    requires { first + 4 ≤ length numbers.now }
+    ensures { result ≡ position (drop first numbers.now) }
 {
-    match numbers::<12>(text) {
-        None => Command::Bad,
-        Some(n) => Command::Gantry {
-            lower: Position {
-                x: n[0],
-                y: n[1],
-                z: n[2],
-                u: n[3],
-            },
-            upper: Position {
-                x: n[4],
-                y: n[5],
-                z: n[6],
-                u: n[7],
-            },
-            home: Position {
-                x: n[8],
-                y: n[9],
-                z: n[10],
-                u: n[11],
-            },
-        },
+    Position {
+        x: numbers[first],
+        y: numbers[first + 1],
+        z: numbers[first + 2],
+        u: numbers[first + 3],
     }
 }
 
-fn beam(text: &[u8]) -> Command
-    ensures { meant result ≡ as_beam (numbers_of 13 (arguments text.now)) }
+fn gantry(text: &[u8]) -> Option<Command>
+    ensures { option_map meant result ≡ as_gantry (numbers_of 12 (arguments text.now)) }
 {
-    match numbers::<13>(text) {
-        None => Command::Bad,
-        Some(n) => Command::Beam {
-            lower: Position {
-                x: n[0],
-                y: n[1],
-                z: n[2],
-                u: n[3],
-            },
-            upper: Position {
-                x: n[4],
-                y: n[5],
-                z: n[6],
-                u: n[7],
-            },
-            home: Position {
-                x: n[8],
-                y: n[9],
-                z: n[10],
-                u: n[11],
-            },
-            gap: n[12],
-        },
-    }
+    let numbers = numbers::<12>(text)?;
+    Some(Command::Gantry {
+        lower: position_at(&numbers, 0),
+        upper: position_at(&numbers, 4),
+        home: position_at(&numbers, 8),
+    })
 }
 
-fn allow(text: &[u8]) -> Command
-    ensures { meant result ≡ as_allow (numbers_of 3 (arguments text.now)) }
+fn beam(text: &[u8]) -> Option<Command>
+    ensures { option_map meant result ≡ as_beam (numbers_of 13 (arguments text.now)) }
 {
-    match numbers::<3>(text) {
-        None => Command::Bad,
-        Some(n) => Command::Allow {
-            parameter: n[0],
-            low: n[1],
-            high: n[2],
-        },
-    }
+    let numbers = numbers::<13>(text)?;
+    Some(Command::Beam {
+        lower: position_at(&numbers, 0),
+        upper: position_at(&numbers, 4),
+        home: position_at(&numbers, 8),
+        gap: numbers[12],
+    })
 }
 
-fn dry(text: &[u8]) -> Command
-    ensures { meant result ≡ as_dry (numbers_of 7 (arguments text.now)) }
+fn allow(text: &[u8]) -> Option<Command>
+    ensures { option_map meant result ≡ as_allow (numbers_of 3 (arguments text.now)) }
 {
-    match numbers::<7>(text) {
-        None => Command::Bad,
-        Some(n) => if n[6] < 0 {
-            Command::Bad
-        } else {
-            Command::Dry {
-                values: [n[0], n[1], n[2], n[3], n[4], n[5]],
-                steps: n[6] as u32,
-            }
-        },
-    }
+    let [parameter, lo, hi] = numbers::<3>(text)?;
+    Some(Command::Allow {
+        parameter,
+        range: Range { lo, hi },
+    })
+}
+
+fn dry(text: &[u8]) -> Option<Command>
+    ensures { option_map meant result ≡ as_dry (numbers_of 7 (arguments text.now)) }
+{
+    let [v1, v2, v3, v4, v5, v6, steps] = numbers::<7>(text)?;
+    Some(Command::Dry {
+        values: [v1, v2, v3, v4, v5, v6],
+        steps: u32::try_from(steps).ok()?,
+    })
 }
 
 // What follows one blank.
@@ -147,31 +117,33 @@ fn line_text(text: &[u8]) -> &[u8]
 }
 
 // The command, if no word follows.
-fn alone<'a>(command: Command<'a>, text: &[u8]) -> Command<'a>
-    ensures { meant result ≡ alone (meant command.entry) (arguments text.now) }
+fn alone<'a>(command: Command<'a>, text: &[u8]) -> Option<Command<'a>>
+    ensures { option_map meant result ≡ alone (meant command.entry) (arguments text.now) }
 {
-    if text.is_empty() {
-        command
-    } else {
-        Command::Bad
-    }
+    text.is_empty().then_some(command)
 }
 
-// The command that the line is.
-pub fn read_command(line: &[u8]) -> Command
-    ensures { meant result ≡ command_of line.now }
+// The command of a first word, and of the text behind it.
+fn command_by(word: Word, text: &[u8]) -> Option<Command>
+    ensures { option_map meant result ≡ chosen word (arguments text.now) (drop 1 text.now) }
 {
-    let n = len_until(line, b' ');
-    let text = &line[n..];
-    match word_of(&line[0..n]) {
+    match word {
         Word::BenchGantry => alone(Command::BenchGantry, text),
         Word::BenchBeam => alone(Command::BenchBeam, text),
         Word::Gantry => gantry(text),
         Word::Beam => beam(text),
-        Word::Line => Command::Line(line_text(text)),
+        Word::Line => Some(Command::Line(line_text(text))),
         Word::Allow => allow(text),
         Word::Wipe => alone(Command::Wipe, text),
         Word::Dry => dry(text),
-        Word::Other => Command::Bad,
     }
+}
+
+// The command that the line is, if it is one.
+pub fn read_command(line: &[u8]) -> Option<Command>
+    ensures { option_map meant result ≡ command_of line.now }
+{
+    let n = len_until(line, b' ');
+    let word = word_of(&line[0..n])?;
+    command_by(word, &line[n..])
 }

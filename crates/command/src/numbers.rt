@@ -9,16 +9,12 @@ use words::{len_until, number};
 fn next_number(text: &[u8]) -> Option<(i32, &[u8])>
     ensures { MatchOption result ((k : ℕ) → numbers_of (suc k) (arguments text.now) ≡ None) (λ p. (k : ℕ) → numbers_of (suc k) (arguments text.now) ≡ put (Some p.0) (numbers_of k (arguments p.1.now))) }
 {
-    match text {
-        [b' ', rest @ ..] => {
-            let n = len_until(rest, b' ');
-            match number(&rest[0..n]) {
-                None => None,
-                Some(value) => Some((value, &rest[n..])),
-            }
-        }
-        _ => None,
-    }
+    let [b' ', rest @ ..] = text else {
+        return None;
+    };
+    let n = len_until(rest, b' ');
+    let value = number(&rest[0..n])?;
+    Some((value, &rest[n..]))
 }
 
 // Exactly N numbers, each after one blank.
@@ -27,14 +23,10 @@ pub(crate) fn numbers<const N: usize>(text: &[u8]) -> Option<[i32; N]>
 {
     let mut values = [0; N];
     let mut rest = text;
-    for i in 0..N {
-        match next_number(rest) {
-            None => return None,
-            Some((value, left)) => {
-                values[i] = value;
-                rest = left;
-            }
-        }
+    for value in &mut values {
+        let (number, left) = next_number(rest)?;
+        *value = number;
+        rest = left;
     }
-    if rest.is_empty() { Some(values) } else { None }
+    rest.is_empty().then_some(values)
 }

@@ -1,6 +1,5 @@
 // The first word of a command, which says what is asked.
 ghost use Rattle.std.specs.Prelude.{◌≡◌};
-ghost use Rattle.std.specs.Str.{bytes_eq};
 ghost use Rattle.command.specs.Words.{word_of};
 
 #[derive(Clone, Copy)]
@@ -13,36 +12,30 @@ pub enum Word {
     Allow,
     Wipe,
     Dry,
-    Other,
-}
-
-fn spells(text: &[u8], word: &[u8]) -> bool
-    ensures { result ≡ bytes_eq text.now word.now }
-{
-    text == word
 }
 
 // Command words are written in small letters exactly.
-pub(crate) fn word_of(text: &[u8]) -> Word
+pub(crate) fn word_of(text: &[u8]) -> Option<Word>
     ensures { result ≡ word_of text.now }
 {
-    if spells(text, b"benchgantry") {
-        Word::BenchGantry
-    } else if spells(text, b"benchbeam") {
-        Word::BenchBeam
-    } else if spells(text, b"gantry") {
-        Word::Gantry
-    } else if spells(text, b"beam") {
-        Word::Beam
-    } else if spells(text, b"line") {
-        Word::Line
-    } else if spells(text, b"allow") {
-        Word::Allow
-    } else if spells(text, b"wipe") {
-        Word::Wipe
-    } else if spells(text, b"dry") {
-        Word::Dry
+    // Not a `match`: its arm for all other texts keeps no fact of what they are not.
+    if text == b"benchgantry".as_slice() {
+        Some(Word::BenchGantry)
+    } else if text == b"benchbeam".as_slice() {
+        Some(Word::BenchBeam)
+    } else if text == b"gantry".as_slice() {
+        Some(Word::Gantry)
+    } else if text == b"beam".as_slice() {
+        Some(Word::Beam)
+    } else if text == b"line".as_slice() {
+        Some(Word::Line)
+    } else if text == b"allow".as_slice() {
+        Some(Word::Allow)
+    } else if text == b"wipe".as_slice() {
+        Some(Word::Wipe)
+    } else if text == b"dry".as_slice() {
+        Some(Word::Dry)
     } else {
-        Word::Other
+        None
     }
 }

@@ -26,11 +26,6 @@ cut_none b (a ∷ bs) h = go (eqb b 10) (cut_none a bs) h
     go true more q = absurd (omega arith)
     go false more q = ap (before b) (more (omega arith))
 
--- no byte, no line
-pub cut_empty : (bs : List ℕ) → length bs ≡ 0 → lines_of bs ≡ []
-cut_empty [] h = refl
-cut_empty (b ∷ bs) h = absurd (omega arith)
-
 pub cut_rest : (bs : List ℕ) → (length bs ≡ 0 → ⊥) → length bs ≤ until 10 bs → lines_of bs ≡ bs ∷ []
 cut_rest [] some h = absurd (some refl)
 cut_rest (b ∷ bs) some h = cut_none b bs h

@@ -43,7 +43,7 @@ number_read : (xs : List ℕ) (z : ℤ) → NumberIs xs z → number_of xs ≡ S
 number_read xs z (plain ds h lo hi) = plain_read ds h lo hi
 number_read xs z (below ds h lo hi) = ap minus (natural_read ds h lo hi)
 
-pair_read : (p : ℕ) (xs ys : List ℕ) (lo hi : ℤ) → NumberIs xs lo → NumberIs ys hi → pair_of p (xs ++ (32 ∷ ys)) ≡ Some (record { parameter = p; low = lo; high = hi })
+pair_read : (p : ℕ) (xs ys : List ℕ) (lo hi : ℤ) → NumberIs xs lo → NumberIs ys hi → pair_of p (xs ++ (32 ∷ ys)) ≡ Some (record { parameter = p; range = record { lo = lo; hi = hi } })
 pair_read p xs ys lo hi a b =
     let n = until_number xs ys lo a in
     let front : take (until 32 (xs ++ (32 ∷ ys))) (xs ++ (32 ∷ ys)) ≡ xs = take_at xs (32 ∷ ys) _ (sym n) in
@@ -100,7 +100,7 @@ some_number : (bs : List ℕ) (z : ℤ) → number_of bs ≡ Some z → 0 < leng
 some_number [] z e = let n : ◌≡◌ {A = ℕ} 0 1 = cc in absurd (omega arith)
 some_number (b ∷ bs) z e = omega arith
 
-both_had : (p : ℕ) (x y : Option ℤ) (a : RangeLine) → with_both p x y ≡ Some a → (lo : ℤ) × (hi : ℤ) × (x ≡ Some lo) × (y ≡ Some hi) × (a ≡ record { parameter = p; low = lo; high = hi })
+both_had : (p : ℕ) (x y : Option ℤ) (a : RangeLine) → with_both p x y ≡ Some a → (lo : ℤ) × (hi : ℤ) × (x ≡ Some lo) × (y ≡ Some hi) × (a ≡ record { parameter = p; range = record { lo = lo; hi = hi } })
 both_had p None y a e = let n : ◌≡◌ {A = ℕ} 0 1 = cc in absurd (omega arith)
 both_had p (Some lo) None a e = let n : ◌≡◌ {A = ℕ} 0 1 = cc in absurd (omega arith)
 both_had p (Some lo) (Some hi) a e = (lo, hi, refl, refl, cc)
@@ -120,8 +120,8 @@ is_had (q ∷ d ∷ s ∷ bs) a e = go (eqb q 63 && (is_digit d && eqb s 32)) re
         let h = both_had (d - 48) _ _ a g in
         let cut = split_at bs (some_number _ _ h.3) in
         let made = range d _ _ h.0 h.1 w.0 w.1 (number_had _ _ h.2) (number_had _ _ h.3) in
-        let whole : RangeIs (63 ∷ d ∷ 32 ∷ bs) (record { parameter = d - 48; low = h.0; high = h.1 }) = subst (λ l. RangeIs (63 ∷ d ∷ 32 ∷ l) (record { parameter = d - 48; low = h.0; high = h.1 })) (sym cut) made in
-        let front : RangeIs (q ∷ d ∷ s ∷ bs) (record { parameter = d - 48; low = h.0; high = h.1 }) = subst (λ c. RangeIs (c ∷ d ∷ s ∷ bs) (record { parameter = d - 48; low = h.0; high = h.1 })) (sym (eqb-true q 63 p.0)) (subst (λ c. RangeIs (63 ∷ d ∷ c ∷ bs) (record { parameter = d - 48; low = h.0; high = h.1 })) (sym (eqb-true s 32 r.1)) whole) in
+        let whole : RangeIs (63 ∷ d ∷ 32 ∷ bs) (record { parameter = d - 48; range = record { lo = h.0; hi = h.1 } }) = subst (λ l. RangeIs (63 ∷ d ∷ 32 ∷ l) (record { parameter = d - 48; range = record { lo = h.0; hi = h.1 } })) (sym cut) made in
+        let front : RangeIs (q ∷ d ∷ s ∷ bs) (record { parameter = d - 48; range = record { lo = h.0; hi = h.1 } }) = subst (λ c. RangeIs (c ∷ d ∷ s ∷ bs) (record { parameter = d - 48; range = record { lo = h.0; hi = h.1 } })) (sym (eqb-true q 63 p.0)) (subst (λ c. RangeIs (63 ∷ d ∷ c ∷ bs) (record { parameter = d - 48; range = record { lo = h.0; hi = h.1 } })) (sym (eqb-true s 32 r.1)) whole) in
         subst (RangeIs (q ∷ d ∷ s ∷ bs)) (sym h.4) front
 
 pub had : (bs : List ℕ) (o : Option RangeLine) → o ≡ range_of bs → IfSome o (λ a. RangeIs bs a)

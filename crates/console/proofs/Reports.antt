@@ -37,19 +37,19 @@ RangeSays l (Some k) = Bad l k
 
 range_says : (l : List ℕ) (o : Option RangeLine) → range_of l ≡ o → RangeSays l (by_range o)
 range_says l None e = malformed (λ a is. let f = is_read l a is in absurd (let z : ◌≡◌ {A = ℕ} 0 1 = cc in omega arith))
-range_says l (Some a) e = go (ltb a.parameter 1 || ltb 6 a.parameter) refl (lt_z a.high a.low || (lt_z a.low (neg_ℤ (pos limit)) || lt_z (pos limit) a.high)) refl
+range_says l (Some a) e = go (ltb a.parameter 1 || ltb 6 a.parameter) refl (lt_z a.range.hi a.range.lo || (lt_z a.range.lo (neg_ℤ (pos limit)) || lt_z (pos limit) a.range.hi)) refl
   where
-    go : (s : Bool) → (ltb a.parameter 1 || ltb 6 a.parameter) ≡ s → (t : Bool) → (lt_z a.high a.low || (lt_z a.low (neg_ℤ (pos limit)) || lt_z (pos limit) a.high)) ≡ t → RangeSays l (cond s (Some 26) (cond t (Some 27) None))
+    go : (s : Bool) → (ltb a.parameter 1 || ltb 6 a.parameter) ≡ s → (t : Bool) → (lt_z a.range.hi a.range.lo || (lt_z a.range.lo (neg_ℤ (pos limit)) || lt_z (pos limit) a.range.hi)) ≡ t → RangeSays l (cond s (Some 26) (cond t (Some 27) None))
     go true f t g = unknown a (is_had l a e) (λ k. true_false f (known_test a.parameter k.0 k.1))
-    go false f true g = disordered a (is_had l a e) (test_known a.parameter f) (λ k. true_false g (ordered_test a.low a.high k.0 k.1 k.2))
-    go false f false g = (a, is_had l a e, test_known a.parameter f, test_ordered a.low a.high g)
+    go false f true g = disordered a (is_had l a e) (test_known a.parameter f) (λ k. true_false g (ordered_test a.range.lo a.range.hi k.0 k.1 k.2))
+    go false f false g = (a, is_had l a e, test_known a.parameter f, test_ordered a.range.lo a.range.hi g)
 
 -- both tests decide the answer
-by_tests : (l : List ℕ) (a : RangeLine) (s t : Bool) → RangeIs l a → (ltb a.parameter 1 || ltb 6 a.parameter) ≡ s → (lt_z a.high a.low || (lt_z a.low (neg_ℤ (pos limit)) || lt_z (pos limit) a.high)) ≡ t → range_answer l ≡ cond s (Some 26) (cond t (Some 27) None)
+by_tests : (l : List ℕ) (a : RangeLine) (s t : Bool) → RangeIs l a → (ltb a.parameter 1 || ltb 6 a.parameter) ≡ s → (lt_z a.range.hi a.range.lo || (lt_z a.range.lo (neg_ℤ (pos limit)) || lt_z (pos limit) a.range.hi)) ≡ t → range_answer l ≡ cond s (Some 26) (cond t (Some 27) None)
 by_tests l a s t is f g = ap by_range (is_read l a is) ∙ (λ i. cond (f i) (Some 26) (cond (g i) (Some 27) None))
 
 good_answer : (l : List ℕ) → Good l → range_answer l ≡ None
-good_answer l (a, is, k, o) = by_tests l a false false is (known_test a.parameter k.0 k.1) (ordered_test a.low a.high o.0 o.1 o.2)
+good_answer l (a, is, k, o) = by_tests l a false false is (known_test a.parameter k.0 k.1) (ordered_test a.range.lo a.range.hi o.0 o.1 o.2)
 
 none_read : (l : List ℕ) (o : Option RangeLine) → range_of l ≡ o → ((a : RangeLine) → RangeIs l a → ⊥) → by_range o ≡ Some 13
 none_read l None e n = refl
@@ -62,11 +62,11 @@ bad_answer l k (unknown a is n) = go (ltb a.parameter 1 || ltb 6 a.parameter) re
     go : (s : Bool) → (ltb a.parameter 1 || ltb 6 a.parameter) ≡ s → range_answer l ≡ Some 26
     go true f = by_tests l a true _ is f refl
     go false f = absurd (n (test_known a.parameter f))
-bad_answer l k (disordered a is known n) = go (lt_z a.high a.low || (lt_z a.low (neg_ℤ (pos limit)) || lt_z (pos limit) a.high)) refl
+bad_answer l k (disordered a is known n) = go (lt_z a.range.hi a.range.lo || (lt_z a.range.lo (neg_ℤ (pos limit)) || lt_z (pos limit) a.range.hi)) refl
   where
-    go : (t : Bool) → (lt_z a.high a.low || (lt_z a.low (neg_ℤ (pos limit)) || lt_z (pos limit) a.high)) ≡ t → range_answer l ≡ Some 27
+    go : (t : Bool) → (lt_z a.range.hi a.range.lo || (lt_z a.range.lo (neg_ℤ (pos limit)) || lt_z (pos limit) a.range.hi)) ≡ t → range_answer l ≡ Some 27
     go true g = by_tests l a false true is (known_test a.parameter known.0 known.1) g
-    go false g = absurd (n (test_ordered a.low a.high g))
+    go false g = absurd (n (test_ordered a.range.lo a.range.hi g))
 
 good_range : (l : List ℕ) → Good l → is_range l ≡ true
 good_range l (a, range d xs ys lo hi p q x y, k, o) = refl
@@ -88,10 +88,6 @@ skip_is (l ∷ ls) = go (is_range l) refl (range_answer l) (range_says l (range_
     go false e o f m = ([], refl, tt, e)
     go true e None f m = one_more l ls (skip ls) f m
     go true e (Some k) f m = ([], l, ls, refl, tt, e, f)
-
--- a range line that is refused stops what has been going on from the first line
-pub stopped_here : (ls ms ns : List (List ℕ)) (l : List ℕ) (k : ℕ) → skip ls ≡ skip ms → ms ≡ l ∷ ns → is_range l ≡ true → range_answer l ≡ Some k → skip ls ≡ stopped k
-stopped_here ls ms ns l k e f q a = e ∙ ap skip f ∙ (λ i. cond (q i) (after_range (a i) (skip ns)) (rest (l ∷ ns)))
 
 skip_good : (rs ms : List (List ℕ)) → AllByRecursion Good rs → skip (rs ++ ms) ≡ skip ms
 skip_good [] ms all = refl

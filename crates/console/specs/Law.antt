@@ -17,7 +17,7 @@ Known a = (1 ≤ a.parameter) × (a.parameter ≤ 6)
 
 -- a range of numbers within the greatest length
 abbrev pub Ordered : RangeLine → Type 0
-Ordered a = (a.low ≤ℤ a.high) × (neg_ℤ (pos limit) ≤ℤ a.low) × (a.high ≤ℤ pos limit)
+Ordered a = (a.range.lo ≤ℤ a.range.hi) × (neg_ℤ (pos limit) ≤ℤ a.range.lo) × (a.range.hi ≤ℤ pos limit)
 
 -- a range line that is accepted
 abbrev pub Good : List ℕ → Type 0

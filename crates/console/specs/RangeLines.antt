@@ -11,13 +11,13 @@ pub data NumberIs : List ℕ → ℤ → Type 0 where
   below : (ds : List ℕ) → all_digits ds ≡ true → 1 ≤ length ds → length ds ≤ 8 → NumberIs (45 ∷ ds) (neg_ℤ (pos (digits_value 10 ds)))
 
 pub data RangeIs : List ℕ → RangeLine → Type 0 where
-  range : (d : ℕ) (xs ys : List ℕ) (lo hi : ℤ) → 48 ≤ d → d ≤ 57 → NumberIs xs lo → NumberIs ys hi → RangeIs (63 ∷ d ∷ 32 ∷ (xs ++ (32 ∷ ys))) (record { parameter = d - 48; low = lo; high = hi })
+  range : (d : ℕ) (xs ys : List ℕ) (lo hi : ℤ) → 48 ≤ d → d ≤ 57 → NumberIs xs lo → NumberIs ys hi → RangeIs (63 ∷ d ∷ 32 ∷ (xs ++ (32 ∷ ys))) (record { parameter = d - 48; range = record { lo = lo; hi = hi } })
 
 -- ---- the reading
 abbrev pub with_both : ℕ → Option ℤ → Option ℤ → Option RangeLine
 with_both n None hi = None
 with_both n (Some lo) None = None
-with_both n (Some lo) (Some hi) = Some (record { parameter = n; low = lo; high = hi })
+with_both n (Some lo) (Some hi) = Some (record { parameter = n; range = record { lo = lo; hi = hi } })
 
 -- two numbers with a blank between them
 abbrev pub pair_of : ℕ → List ℕ → Option RangeLine

@@ -9,8 +9,8 @@ use Rattle.session.specs.Answers.{allow_number, allow_answer}
 use Rattle.console.specs.declared.range_line.RangeLine.{RangeLine}
 use Rattle.console.specs.declared.refusal.Refusal.{Refusal}
 use Rattle.console.specs.declared.refusal.Refusal.TheVariants.{Input, RangeText, Allow as OfAllow, Line as OfLine, Open}
-use Rattle.console.specs.declared.report.Report.{Report}
-use Rattle.console.specs.declared.report.Report.TheVariants.{Read, Refused}
+use Rattle.console.specs.declared.report.Summary.{Summary}
+use Rattle.console.specs.declared.report.Rejection.{Rejection}
 use Rattle.console.specs.Lines.{lines_of}
 use Rattle.console.specs.RangeLines.{range_of}
 
@@ -41,9 +41,9 @@ refusal_place (OfAllow e) = 0
 refusal_place (OfLine e) = or_zero (line_place e)
 refusal_place Open = 0
 
-abbrev pub said : Report → Outcome
-said (Read n b) = read_all n b
-said (Refused l e) = refused_at l (refusal_number e) (refusal_place e)
+abbrev pub said : Result Summary Rejection → Outcome
+said (Ok s) = read_all s.lines s.blocks
+said (Err e) = refused_at e.line (refusal_number e.refusal) (refusal_place e.refusal)
 
 -- the report's text, byte by byte; the line feed after it is the printer's
 abbrev pub outcome_text : Outcome → List ℕ
@@ -58,7 +58,7 @@ is_range (b ∷ bs) = b == 63
 
 -- the number for which a range line is refused, if it is
 abbrev pub allowed_answer : RangeLine → Option ℕ
-allowed_answer a = allow_answer a.parameter a.low a.high
+allowed_answer a = allow_answer a.parameter a.range
 
 abbrev pub by_range : Option RangeLine → Option ℕ
 by_range None = Some 13

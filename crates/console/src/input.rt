@@ -5,10 +5,10 @@ ghost use Rattle.console.specs.Report.{max_input, refusal_place, is_range, range
 ghost use Rattle.program.specs.Held.{held};
 ghost use Rattle.console.specs.Law.{TheReport};
 
-use crate::lines::first_line;
+use crate::lines::{Lines, first_line};
 use crate::range_line::{RangeLine, read_range};
 use crate::refusal::Refusal;
-use crate::report::Report;
+use crate::report::{Rejection, Report, Summary};
 use program::table::Program;
 use session::ranges::check_range;
 
@@ -18,36 +18,29 @@ pub const MAX_INPUT: usize = 32_768;
 fn begins_range(line: &[u8]) -> bool
     ensures { result ≡ is_range line.now }
 {
-    match line {
-        [b'?', ..] => true,
-        _ => false,
-    }
+    line.first() == Some(&b'?')
 }
 
-fn check_allowed(range: RangeLine) -> Result<(), Refusal>
-    ensures says { range_said result ≡ allowed_answer range }
+fn check_allowed(line: RangeLine) -> Result<(), Refusal>
+    ensures says { range_said result ≡ allowed_answer line }
     ensures nowhere { IfErr result (λ e. refusal_place e ≡ 0) }
 {
-    match check_range(range.parameter as u32, range.low, range.high) {
-        Ok(()) => Ok(()),
-        Err(e) => Err(Refusal::Allow(e)),
-    }
+    Ok(check_range(line.parameter as u32, line.range)?)
 }
 
 fn check_line(line: &[u8]) -> Result<(), Refusal>
     ensures says { range_said result ≡ range_answer line.now }
     ensures nowhere { IfErr result (λ e. refusal_place e ≡ 0) }
 {
-    match read_range(line) {
-        None => Err(Refusal::RangeText),
-        Some(range) => check_allowed(range),
-    }
+    let line = read_range(line).ok_or(Refusal::RangeText)?;
+    check_allowed(line)
 }
 
 // What follows the range lines at the front, if all of them may stand.
 fn skip_ranges(text: &[u8]) -> Result<&[u8], Refusal>
     ensures { Skips text.now result }
 {
+    // Not a `for`: the answer is what is left with the line that is looked at.
     let mut rest = text;
     while let Some((line, more)) = first_line(rest) {
         if !begins_range(line) {
@@ -59,56 +52,47 @@ fn skip_ranges(text: &[u8]) -> Result<&[u8], Refusal>
     Ok(rest)
 }
 
-fn report_program(text: &[u8]) -> Report
+fn read_program(text: &[u8]) -> Result<Summary, Rejection>
     requires { length text.now ≤ max_input }
     ensures { said result ≡ program_outcome 1 [] (lines_of text.now) }
 {
     let mut program = Program::new();
-    let mut n = 1;
-    let mut rest = text;
-    while let Some((line, more)) = first_line(rest) {
-        if let Err(e) = program.line(line) {
-            return Report::Refused {
-                line: n,
-                refusal: Refusal::Line(e),
-            };
-        }
-        n += 1;
-        rest = more;
+    for (before, line) in Lines::new(text).enumerate() {
+        program.line(line).map_err(|refusal| Rejection {
+            line: before + 1,
+            refusal: refusal.into(),
+        })?;
     }
-    ending(&program)
+    summary_of(&program)
 }
 
 // The report on a program that was read whole.
-fn ending(program: &Program) -> Report
+fn summary_of(program: &Program) -> Result<Summary, Rejection>
     ensures { said result ≡ ending (held program.now) }
 {
-    if program.is_closed() {
-        Report::Read {
-            lines: program.lines().len(),
-            blocks: program.block_count(),
-        }
-    } else {
-        Report::Refused {
-            line: 0,
-            refusal: Refusal::Open,
-        }
+    if !program.is_closed() {
+        return Err(Refusal::Open.into());
     }
+    Ok(Summary {
+        lines: program.lines().len(),
+        blocks: program.block_count(),
+    })
+}
+
+fn read_input(input: &[u8]) -> Result<Summary, Rejection>
+    ensures { said result ≡ report_of input.now }
+{
+    if input.len() > MAX_INPUT {
+        return Err(Refusal::Input.into());
+    }
+    let program = skip_ranges(input)?;
+    read_program(program)
 }
 
 // The report on a whole input: the one that the rules give.
 pub fn report_on(input: &[u8]) -> Report
-    ensures law { TheReport input.now (said result) }
-    ensures is { said result ≡ report_of input.now }
+    ensures law { TheReport input.now (said result.0) }
+    ensures is { said result.0 ≡ report_of input.now }
 {
-    if input.len() > MAX_INPUT {
-        return Report::Refused {
-            line: 0,
-            refusal: Refusal::Input,
-        };
-    }
-    match skip_ranges(input) {
-        Err(refusal) => Report::Refused { line: 0, refusal },
-        Ok(rest) => report_program(rest),
-    }
+    Report(read_input(input))
 }

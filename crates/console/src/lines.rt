@@ -1,5 +1,6 @@
 // The lines of a text.
 ghost use Rattle.std.specs.Prelude.{◌≡◌, ◌<◌, [], ◌∷◌, length, MatchOption};
+ghost use Rattle.std.specs.Iterator.{at_most};
 ghost use Rattle.console.specs.Lines.{lines_of};
 
 use words::len_until;
@@ -16,5 +17,33 @@ pub fn first_line(text: &[u8]) -> Option<(&[u8], &[u8])>
         Some((&text[0..n], &text[n + 1..]))
     } else {
         Some((text, &text[n..]))
+    }
+}
+
+// The lines of a text, one after another.
+#[derive(Clone, Copy)]
+pub struct Lines<'a> {
+    rest: &'a [u8],
+}
+
+impl<'a> Lines<'a> {
+    pub fn new(text: &'a [u8]) -> Lines<'a>
+        ensures { result.rest.now ≡ text.now }
+    {
+        Lines { rest: text }
+    }
+}
+
+impl<'a> Iterator for Lines<'a> {
+    type Item = &'a [u8];
+
+    ghost next_gives = { λ before item after. MatchOption item (lines_of before.rest.now ≡ []) (λ line. lines_of before.rest.now ≡ line.now ∷ lines_of after.rest.now) };
+
+    ghost remaining = { λ lines. at_most (length lines.rest.now) };
+
+    fn next(&mut self) -> Option<&'a [u8]> {
+        let (line, rest) = first_line(self.rest)?;
+        self.rest = rest;
+        Some(line)
     }
 }

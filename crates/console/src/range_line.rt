@@ -2,14 +2,14 @@
 ghost use Rattle.std.specs.Prelude.{◌≡◌, IfSome, Some};
 ghost use Rattle.console.specs.RangeLines.{pair_of, range_of, RangeIs};
 
+use model::range::Range;
 use words::{len_until, number};
 
 // The range of values that a parameter may have.
 #[derive(Clone, Copy)]
 pub struct RangeLine {
     pub parameter: u8,
-    pub low: i32,
-    pub high: i32,
+    pub range: Range,
 }
 
 fn two_numbers(parameter: u8, text: &[u8]) -> Option<RangeLine>
@@ -19,24 +19,19 @@ fn two_numbers(parameter: u8, text: &[u8]) -> Option<RangeLine>
     if n == text.len() {
         return None;
     }
-    match number(&text[0..n]) {
-        None => None,
-        Some(low) => match number(&text[n + 1..]) {
-            None => None,
-            Some(high) => Some(RangeLine {
-                parameter,
-                low,
-                high,
-            }),
-        },
-    }
+    let lo = number(&text[0..n])?;
+    let hi = number(&text[n + 1..])?;
+    Some(RangeLine {
+        parameter,
+        range: Range { lo, hi },
+    })
 }
 
 fn parsed(line: &[u8]) -> Option<RangeLine>
     ensures { result ≡ range_of line.now }
 {
     match line {
-        [b'?', d, b' ', rest @ ..] if *d >= b'0' && *d <= b'9' => two_numbers(*d - b'0', rest),
+        [b'?', d, b' ', rest @ ..] if d.is_ascii_digit() => two_numbers(*d - b'0', rest),
         _ => None,
     }
 }

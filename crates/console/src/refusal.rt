@@ -1,6 +1,7 @@
 // Why an input is refused.
 ghost use Rattle.std.specs.Prelude.{◌≡◌};
 ghost use Rattle.console.specs.Report.{refusal_number, refusal_place};
+ghost use Rattle.console.specs.declared.refusal.Refusal.TheVariants.{Allow, Line};
 
 use program::refusal::LineRefusal;
 use session::refusal::AllowRefusal;
@@ -17,6 +18,22 @@ pub enum Refusal {
     Line(LineRefusal),
     // a block that is open where the program ends
     Open,
+}
+
+impl From<AllowRefusal> for Refusal {
+    ghost from_gives = { λ refusal result. result ≡ Allow refusal };
+
+    fn from(refusal: AllowRefusal) -> Refusal {
+        Refusal::Allow(refusal)
+    }
+}
+
+impl From<LineRefusal> for Refusal {
+    ghost from_gives = { λ refusal result. result ≡ Line refusal };
+
+    fn from(refusal: LineRefusal) -> Refusal {
+        Refusal::Line(refusal)
+    }
 }
 
 impl Refusal {

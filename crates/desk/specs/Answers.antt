@@ -1,5 +1,5 @@
 -- What a command is answered, in numbers, and the text of the answer.
-use Rattle.std.specs.Prelude.{ℕ, List, ◌++◌, Some, None, codes, decimal, Option}
+use Rattle.std.specs.Prelude.{ℕ, List, ◌++◌, Some, None, Ok, Err, codes, decimal, Option, Result}
 use Rattle.model.specs.declared.ending.Cause.{Cause}
 use Rattle.model.specs.declared.ending.Cause.TheVariants.{Arithmetic, Travel}
 use Rattle.model.specs.declared.ending.Ending.{Ending}
@@ -36,6 +36,10 @@ said Done = done
 said (Refused e) = refused (refusal_number e) (refusal_place e)
 said (Came o) = came o
 said (Bad n) = bad_at n
+
+abbrev pub said_or_why : Result Answer Refusal → Said
+said_or_why (Ok a) = said a
+said_or_why (Err e) = refused (refusal_number e) (refusal_place e)
 
 -- ---- texts
 abbrev pub cause_text : Cause → List ℕ

@@ -4,7 +4,7 @@ use Rattle.model.specs.declared.ending.Ending.{Ending}
 use Rattle.model.specs.Axes.{Position}
 use Rattle.model.specs.declared.side.Side.{Side}
 use Rattle.model.specs.Whole.{TheEnding}
-use Rattle.command.specs.Commands.{Meant, bench_gantry, bench_beam, gantry, beam, line, allow, wipe, dry, bad}
+use Rattle.command.specs.Commands.{Meant, bench_gantry, bench_beam, gantry, beam, line, allow, wipe, dry}
 use Rattle.program.specs.Entry.{LineAnswer, taken, turned_down, line_answer}
 use Rattle.runner.specs.Drying.{start}
 use Rattle.session.specs.Answers.{allow_answer, dry_answer}
@@ -42,14 +42,13 @@ Dries ss h m vs k None a = (o : Ending) × (a ≡ came o) × TheEnding m.program
 -- a call of a session on a travel with these sides and this home; n is the number of the command
 abbrev pub Calls : List Side → Position → Memory → ℕ → Meant → Said → Memory → Type 0
 Calls ss h m n (line s) a after = (a ≡ by_line (line_answer m.program s)) × (after ≡ after_line m s)
-Calls ss h m n (allow p lo hi) a after = (a ≡ by_number (allow_answer (natural p) lo hi)) × (after ≡ after_allow m (natural p) lo hi)
+Calls ss h m n (allow p r) a after = (a ≡ by_number (allow_answer (natural p) r)) × (after ≡ after_allow m (natural p) r)
 Calls ss h m n wipe a after = (a ≡ done) × (after ≡ blank)
 Calls ss h m n (dry vs k) a after = Dries ss h m vs k (dry_answer m.program vs k) a × (after ≡ m)
 Calls ss h m n bench_gantry a after = (a ≡ bad_at n) × (after ≡ m)
 Calls ss h m n bench_beam a after = (a ≡ bad_at n) × (after ≡ m)
 Calls ss h m n (gantry lo hi at) a after = (a ≡ bad_at n) × (after ≡ m)
 Calls ss h m n (beam lo hi at gap) a after = (a ≡ bad_at n) × (after ≡ m)
-Calls ss h m n bad a after = (a ≡ bad_at n) × (after ≡ m)
 
 -- ---- tables
 -- the tables of the examples
@@ -97,10 +96,9 @@ Names bench_beam r = SomeTable (OnBeam bench_lower beam_upper beam_home (pos 900
 Names (gantry lo hi at) r = SomeTable (OnGantry lo hi at) r
 Names (beam lo hi at gap) r = SomeTable (OnBeam lo hi at gap) r
 Names (line s) r = NoTable r
-Names (allow p lo hi) r = NoTable r
+Names (allow p range) r = NoTable r
 Names wipe r = NoTable r
 Names (dry vs k) r = NoTable r
-Names bad r = NoTable r
 
 -- ---- scripts
 -- a new session on the table takes the place of the one that stands, if there is such a table
@@ -112,6 +110,7 @@ abbrev pub Served : Session Table → ℕ → Meant → Option (Result Table Tra
 Served s n c (Some r) a after = Changes s r a after
 Served s n c None a after = Calls (either gantry_sides beam_sides s.travel) (either (λ g. g.home) (λ b. b.base.home) s.travel) (memory s) n c a (memory after) × (after.travel ≡ s.travel)
 
--- a command on the session that stands
-abbrev pub Serves : Session Table → ℕ → Meant → Said → Session Table → Type 0
-Serves s n c a after = (r : Option (Result Table TravelRefusal)) × Names c r × Served s n c r a after
+-- a line on the session that stands: no command leaves it as it is
+abbrev pub Serves : Session Table → ℕ → Option Meant → Said → Session Table → Type 0
+Serves s n None a after = (a ≡ bad_at n) × (after ≡ s)
+Serves s n (Some c) a after = (r : Option (Result Table TravelRefusal)) × Names c r × Served s n c r a after

@@ -1,5 +1,6 @@
 // What a command is answered, and its text.
 ghost use Rattle.std.specs.Prelude.{◌≡◌, Some};
+ghost use Rattle.desk.specs.declared.answer.Refusal.TheVariants.{Travel, Line, Allow, Dry};
 ghost use Rattle.desk.specs.Answers.{refusal_number, refusal_place, said, said_text};
 
 use model::ending::{Cause, Ending, Failure};
@@ -14,6 +15,38 @@ pub enum Refusal {
     Line(LineRefusal),
     Allow(AllowRefusal),
     Dry(DryRefusal),
+}
+
+impl From<TravelRefusal> for Refusal {
+    ghost from_gives = { λ refusal result. result ≡ Travel refusal };
+
+    fn from(refusal: TravelRefusal) -> Refusal {
+        Refusal::Travel(refusal)
+    }
+}
+
+impl From<LineRefusal> for Refusal {
+    ghost from_gives = { λ refusal result. result ≡ Line refusal };
+
+    fn from(refusal: LineRefusal) -> Refusal {
+        Refusal::Line(refusal)
+    }
+}
+
+impl From<AllowRefusal> for Refusal {
+    ghost from_gives = { λ refusal result. result ≡ Allow refusal };
+
+    fn from(refusal: AllowRefusal) -> Refusal {
+        Refusal::Allow(refusal)
+    }
+}
+
+impl From<DryRefusal> for Refusal {
+    ghost from_gives = { λ refusal result. result ≡ Dry refusal };
+
+    fn from(refusal: DryRefusal) -> Refusal {
+        Refusal::Dry(refusal)
+    }
 }
 
 impl Refusal {
@@ -38,6 +71,7 @@ impl Refusal {
     }
 }
 
+// One type for all that is printed, since a Result is not.
 #[derive(Clone, Copy)]
 pub enum Answer {
     Done,

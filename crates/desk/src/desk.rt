@@ -2,7 +2,7 @@
 ghost use Rattle.std.specs.Prelude.{◌≡◌, Ok};
 ghost use Rattle.command.specs.Commands.{meant, command_of};
 ghost use Rattle.session.specs.Memory.{memory};
-ghost use Rattle.desk.specs.Answers.{said};
+ghost use Rattle.desk.specs.Answers.{said, said_or_why};
 ghost use Rattle.desk.specs.Serving.{Calls, OnGantry, OnBeam, Names, Changes, Serves, bench_lower, gantry_upper, gantry_home};
 
 use crate::answer::{Answer, Refusal};
@@ -19,36 +19,22 @@ use travel::travel::Travel;
 pub type Table = Either<Gantry, Beam>;
 
 // A call of a session.
-fn call<T: Travel>(session: &mut Session<T>, n: usize, command: Command) -> Answer
-    ensures serves { Calls (T.sides session.old.travel) (T.origin session.old.travel) (memory session.old) n (meant command.entry) (said result) (memory session.new) }
+fn call<T: Travel>(session: &mut Session<T>, n: usize, command: Command) -> Result<Answer, Refusal>
+    ensures serves { Calls (T.sides session.old.travel) (T.origin session.old.travel) (memory session.old) n (meant command.entry) (said_or_why result) (memory session.new) }
     ensures travel { session.new.travel ≡ session.old.travel }
 {
     match command {
-        Command::Line(text) => match session.line(text) {
-            Ok(()) => Answer::Done,
-            Err(e) => Answer::Refused(Refusal::Line(e)),
-        },
-        Command::Allow {
-            parameter,
-            low,
-            high,
-        } => {
-            let number = u32::try_from(parameter).unwrap_or(0);
-            match session.allow(number, low, high) {
-                Ok(()) => Answer::Done,
-                Err(e) => Answer::Refused(Refusal::Allow(e)),
-            }
+        Command::Line(text) => session.line(text)?,
+        Command::Allow { parameter, range } => {
+            session.allow(u32::try_from(parameter).unwrap_or(0), range)?
         }
-        Command::Wipe => {
-            session.wipe();
-            Answer::Done
+        Command::Wipe => session.wipe(),
+        Command::Dry { values, steps } => {
+            return Ok(Answer::Came(session.dry(values, steps)?));
         }
-        Command::Dry { values, steps } => match session.dry(values, steps) {
-            Ok(ending) => Answer::Came(ending),
-            Err(e) => Answer::Refused(Refusal::Dry(e)),
-        },
-        _ => Answer::Bad(n),
+        _ => return Ok(Answer::Bad(n)),
     }
+    Ok(Answer::Done)
 }
 
 const BENCH_LOWER: Position = Position {
@@ -91,10 +77,7 @@ const BENCH_GAP: i32 = 90_000;
 fn on_gantry(lower: Position, upper: Position, home: Position) -> Result<Table, TravelRefusal>
     ensures { OnGantry lower upper home result }
 {
-    match Gantry::new(lower, home, upper) {
-        Ok(g) => Ok(Either::First(g)),
-        Err(e) => Err(e),
-    }
+    Gantry::new(lower, home, upper).map(Either::First)
 }
 
 fn on_beam(
@@ -105,20 +88,17 @@ fn on_beam(
 ) -> Result<Table, TravelRefusal>
     ensures { OnBeam lower upper home gap result }
 {
-    match Beam::new(lower, home, upper, gap) {
-        Ok(b) => Ok(Either::Second(b)),
-        Err(e) => Err(e),
-    }
+    Beam::new(lower, home, upper, gap).map(Either::Second)
 }
 
 // The table a script begins on.
 pub fn first_table() -> Table
     ensures { OnGantry bench_lower gantry_upper gantry_home (Ok result) }
 {
-    match on_gantry(BENCH_LOWER, GANTRY_UPPER, GANTRY_HOME) {
-        Ok(table) => table,
-        Err(_) => unreachable(),
-    }
+    let Ok(table) = on_gantry(BENCH_LOWER, GANTRY_UPPER, GANTRY_HOME) else {
+        unreachable()
+    };
+    table
 }
 
 // The table that a command names, or why there is no such one; none where it names no table.
@@ -143,21 +123,22 @@ fn table_of(command: Command) -> Option<Result<Table, TravelRefusal>>
 pub fn serve(session: &mut Session<Table>, n: usize, line: &[u8]) -> Answer
     ensures { Serves session.old n (command_of line.now) (said result) session.new }
 {
-    let command = read_command(line);
-    match table_of(command) {
+    let Some(command) = read_command(line) else {
+        return Answer::Bad(n);
+    };
+    let answer = match table_of(command) {
         None => call(session, n, command),
         Some(made) => next_session(session, made),
-    }
+    };
+    answer.unwrap_or_else(Answer::Refused)
 }
 
-fn next_session(session: &mut Session<Table>, made: Result<Table, TravelRefusal>) -> Answer
-    ensures { Changes session.old made (said result) session.new }
+fn next_session(
+    session: &mut Session<Table>,
+    made: Result<Table, TravelRefusal>,
+) -> Result<Answer, Refusal>
+    ensures { Changes session.old made (said_or_why result) session.new }
 {
-    match made {
-        Ok(table) => {
-            *session = Session::new(table);
-            Answer::Done
-        }
-        Err(e) => Answer::Refused(Refusal::Travel(e)),
-    }
+    *session = Session::new(made?);
+    Ok(Answer::Done)
 }

@@ -5,7 +5,7 @@ ghost use Rattle.model.specs.Blocks.{role_of};
 use crate::expression::Condition;
 use crate::line::Line;
 
-#[derive(Clone, Copy)]
+#[derive(Clone, Copy, PartialEq, Eq)]
 pub enum BlockKind {
     While,
     If,

@@ -89,7 +89,7 @@ one_opened xs bs x k l c e new a =
     stack_push s (c ∷ cs) b = stack_push (topped s c) cs b
 
 -- a line that ends the innermost open block
-pub one_ended : (xs : List Line) (bs : List Block) (x : Line) (k : BlockKind) (i : ℕ) → role_of x ≡ Ends k (get_or bs i no_block).label → Last bs (length bs) (Some i) → Agrees xs bs → Agrees (xs ++ (x ∷ [])) (set bs i (with_end (Some (length xs + 1)) (get_or bs i no_block)))
+pub one_ended : (xs : List Line) (bs : List Block) (x : Line) (k : BlockKind) (i : ℕ) → role_of x ≡ Ends k (get_or bs i no_block).label → Last bs (Some i) → Agrees xs bs → Agrees (xs ++ (x ∷ [])) (set bs i (with_end (Some (length xs + 1)) (get_or bs i no_block)))
 one_ended xs bs x k i e last a =
     let same : labels (xs ++ (x ∷ [])) ≡ labels xs = labels_more xs x ∙ rw e (append-nil (labels xs)) in
     record {

@@ -1,10 +1,10 @@
 -- What a search through a list of blocks finds: the block of a label, and the last one that has no end.
-use Rattle.std.proofs.Common.{◌≡◌, ℕ, zero, suc, ◌+◌, ◌<◌, ◌≤◌, Bool, true, false, cond, eqb, List, [], ◌∷◌, map, length, get_or, take, set, is_some, Some, None, Option, sym, refl, ap, ◌∙◌, arith, length-take-le, get_or-take}
+use Rattle.std.proofs.Common.{◌≡◌, ℕ, zero, suc, ◌+◌, ◌<◌, Bool, true, false, cond, eqb, List, [], ◌∷◌, map, length, get_or, take, set, is_some, Some, None, Option, sym, refl, ap, ◌∙◌, arith}
 use Rattle.std.proofs.lemmas.Bool.{eqb-true}
 use Rattle.model.specs.declared.line.Line.{Line}
 use Rattle.model.specs.declared.block.Block.{Block}
 use Rattle.model.specs.Blocks.{Stack, place_from, block_of}
-use Rattle.program.specs.Agree.{no_block, label_of, topped, unended, Each, has_end, Last}
+use Rattle.program.specs.Agree.{no_block, label_of, topped, unended, Each, Last}
 use Rattle.program.proofs.Places.{place_within}
 use Rattle.program.proofs.Readings.{with_end}
 
@@ -23,38 +23,24 @@ each_found xs (b ∷ bs) n l i h e = by_test (eqb b.label l) refl i e (λ j. eac
     by_test false q (suc j) f more = more j (ap Some (omega arith) ∙ f)
 
 -- blocks that have their ends leave the stack as it is
-pub all_ended : (s : Stack) (bs : List Block) → Last bs (length bs) None → unended s bs ≡ s
+pub all_ended : (s : Stack) (bs : List Block) → Last bs None → unended s bs ≡ s
 all_ended s [] h = refl
 all_ended s (b ∷ bs) h = let t : is_some b.end ≡ true = h 0 (omega arith) in rw t (all_ended s bs (λ k q. h (suc k) (omega arith)))
 
-last_later : (b : Block) (bs : List Block) (i : ℕ) → Last (b ∷ bs) (length (b ∷ bs)) (Some (suc i)) → Last bs (length bs) (Some i)
+last_later : (b : Block) (bs : List Block) (i : ℕ) → Last (b ∷ bs) (Some (suc i)) → Last bs (Some i)
 last_later b bs i h = (omega arith, h.1, λ k p q. h.2 (suc k) (omega arith) (omega arith))
 
-ended_behind : (b : Block) (bs : List Block) → Last (b ∷ bs) (length (b ∷ bs)) (Some 0) → Last bs (length bs) None
+ended_behind : (b : Block) (bs : List Block) → Last (b ∷ bs) (Some 0) → Last bs None
 ended_behind b bs h = λ k q. h.2 (suc k) (omega arith) (omega arith)
 
 -- the last block that has no end is the innermost open one
-pub last_on_top : (s : Stack) (bs : List Block) (i : ℕ) → Last bs (length bs) (Some i) → unended s bs ≡ ((get_or bs i no_block).kind, (get_or bs i no_block).label) ∷ unended s (take i bs)
+pub last_on_top : (s : Stack) (bs : List Block) (i : ℕ) → Last bs (Some i) → unended s bs ≡ ((get_or bs i no_block).kind, (get_or bs i no_block).label) ∷ unended s (take i bs)
 last_on_top s [] i h = absurd (omega arith)
 last_on_top s (b ∷ bs) zero h = let t : is_some b.end ≡ false = h.1 in rw t (all_ended _ bs (ended_behind b bs h))
 last_on_top s (b ∷ bs) (suc i) h = last_on_top (topped s b) bs i (last_later b bs i h)
 
 -- and its end leaves those around it
-pub last_ended : (s : Stack) (bs : List Block) (i n : ℕ) → Last bs (length bs) (Some i) → unended s (set bs i (with_end (Some n) (get_or bs i no_block))) ≡ unended s (take i bs)
+pub last_ended : (s : Stack) (bs : List Block) (i n : ℕ) → Last bs (Some i) → unended s (set bs i (with_end (Some n) (get_or bs i no_block))) ≡ unended s (take i bs)
 last_ended s [] i n h = absurd (omega arith)
 last_ended s (b ∷ bs) zero n h = all_ended s bs (ended_behind b bs h)
 last_ended s (b ∷ bs) (suc i) n h = last_ended (topped s b) bs i n (last_later b bs i h)
-
--- the last of the first n blocks, in the list that these are
-pub last_taken : (bs : List Block) (n : ℕ) (r : Option ℕ) → n ≤ length bs → Last bs n r → Last (take n bs) (length (take n bs)) r
-last_taken bs n r room h = by_answer r h
-  where
-    long : length (take n bs) ≡ n
-    long = length-take-le n bs room
-
-    same : (k : ℕ) → k < n → has_end (take n bs) k ≡ has_end bs k
-    same k q = ap (λ b. is_some b.end) (get_or-take n bs k no_block q)
-
-    by_answer : (r : Option ℕ) → Last bs n r → Last (take n bs) (length (take n bs)) r
-    by_answer None h = λ k q. let e = long in same k (omega arith) ∙ h k (omega arith)
-    by_answer (Some i) h = let e = long in (omega arith, same i h.0 ∙ h.1, λ k p q. same k (omega arith) ∙ h.2 k p (omega arith))

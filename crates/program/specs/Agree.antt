@@ -1,5 +1,5 @@
 -- A list of blocks says what the lines say: which blocks are open, which labels are had, and what each block is.
-use Rattle.std.specs.Prelude.{◌≡◌, ℕ, ◌<◌, Bool, true, false, cond, List, [], ◌∷◌, map, pos, is_some, Some, None, Option, slice_index_or}
+use Rattle.std.specs.Prelude.{◌≡◌, ℕ, ◌<◌, Bool, true, false, cond, List, [], ◌∷◌, length, map, pos, is_some, Some, None, Option, slice_index_or}
 use Rattle.model.specs.declared.expression.Rel.TheVariants.{Eq}
 use Rattle.model.specs.declared.expression.Term.TheVariants.{Number}
 use Rattle.model.specs.declared.line.Line.{Line}
@@ -40,7 +40,7 @@ pub record Agrees (xs : List Line) (bs : List Block) : Type 0 where
 abbrev pub has_end : List Block → ℕ → Bool
 has_end bs k = is_some (slice_index_or bs k no_block).end
 
--- the last of the first n blocks that has no end, if there is one
-abbrev pub Last : List Block → ℕ → Option ℕ → Type 0
-Last bs n None = (k : ℕ) → k < n → has_end bs k ≡ true
-Last bs n (Some i) = (i < n) × (has_end bs i ≡ false) × ((k : ℕ) → i < k → k < n → has_end bs k ≡ true)
+-- the last of the blocks that has no end, if there is one
+abbrev pub Last : List Block → Option ℕ → Type 0
+Last bs None = (k : ℕ) → k < length bs → has_end bs k ≡ true
+Last bs (Some i) = (i < length bs) × (has_end bs i ≡ false) × ((k : ℕ) → i < k → k < length bs → has_end bs k ≡ true)

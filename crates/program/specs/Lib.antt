@@ -1,5 +1,6 @@
 -- The table of a program: what the next line is answered, when blocks say what the lines say, when lines
 -- are written, and what a table holds.
+pub mod Racks
 pub mod Refusals
 pub mod Agree
 pub mod Written

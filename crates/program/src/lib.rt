@@ -2,5 +2,6 @@
 
 #![tactic(auto)]
 
+mod rack;
 pub mod refusal;
 pub mod table;

@@ -1,6 +1,7 @@
 // Why a program takes no line.
 ghost use Rattle.std.specs.Prelude.{◌≡◌};
 ghost use Rattle.program.specs.Entry.{line_number, line_place};
+ghost use Rattle.program.specs.declared.refusal.LineRefusal.TheVariants.{Text, Table};
 
 use grammar::refusal::Refusal;
 
@@ -22,6 +23,22 @@ pub enum TableRefusal {
 pub enum LineRefusal {
     Text(Refusal),
     Table(TableRefusal),
+}
+
+impl From<Refusal> for LineRefusal {
+    ghost from_gives = { λ refusal result. result ≡ Text refusal };
+
+    fn from(refusal: Refusal) -> LineRefusal {
+        LineRefusal::Text(refusal)
+    }
+}
+
+impl From<TableRefusal> for LineRefusal {
+    ghost from_gives = { λ refusal result. result ≡ Table refusal };
+
+    fn from(refusal: TableRefusal) -> LineRefusal {
+        LineRefusal::Table(refusal)
+    }
 }
 
 impl LineRefusal {

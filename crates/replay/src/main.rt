@@ -2,7 +2,7 @@
 
 #![tactic(auto)]
 
-use console::lines::first_line;
+use console::lines::Lines;
 use desk::desk::{first_table, serve};
 use session::session::Session;
 use std::io::Read;
@@ -11,13 +11,9 @@ fn main(rt: HostRuntime) -> anyhow::Result<()> {
     let mut script = Vec::new(rt.alloc());
     rt.stdin().read_to_end(&mut script)?;
     let mut session = Session::new(first_table());
-    let mut n: usize = 0;
-    let mut rest = script.as_slice();
-    while let Some((line, more)) = first_line(rest) {
-        n = n.saturating_add(1);
-        let answer = serve(&mut session, n, line);
+    for (before, line) in Lines::new(script.as_slice()).enumerate() {
+        let answer = serve(&mut session, before + 1, line);
         println!(rt; "{answer}")?;
-        rest = more;
     }
     Ok(())
 }

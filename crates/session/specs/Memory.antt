@@ -1,5 +1,5 @@
 -- What a session remembers, and what the calls make of it.
-use Rattle.std.specs.Prelude.{ℕ, List, [], ℤ}
+use Rattle.std.specs.Prelude.{ℕ, List, []}
 use Rattle.model.specs.declared.line.Line.{Line}
 use Rattle.model.specs.declared.range.Range.{Range}
 use Rattle.program.specs.Held.{held}
@@ -21,5 +21,5 @@ memory s = record { program = held s.program; allowed = s.ranges.each }
 abbrev pub after_line : Memory → List ℕ → Memory
 after_line m s = record { program = lines_after m.program s; allowed = m.allowed }
 
-abbrev pub after_allow : Memory → ℕ → ℤ → ℤ → Memory
-after_allow m n lo hi = record { program = m.program; allowed = ranges_after m.allowed n lo hi }
+abbrev pub after_allow : Memory → ℕ → Range → Memory
+after_allow m n r = record { program = m.program; allowed = ranges_after m.allowed n r }

@@ -17,13 +17,13 @@ pub struct Ranges {
 }
 
 // Whether the parameter, from 1, may be allowed the range.
-pub fn check_range(parameter: u32, lo: i32, hi: i32) -> Result<(), AllowRefusal>
-    ensures says { allow_said result ≡ allow_answer parameter lo hi }
+pub fn check_range(parameter: u32, range: Range) -> Result<(), AllowRefusal>
+    ensures says { allow_said result ≡ allow_answer parameter range }
     ensures known { OnOk result ((1 ≤ parameter) × (parameter ≤ parameters)) }
 {
     if parameter < 1 || parameter > PARAMETERS as u32 {
         Err(AllowRefusal::Parameter)
-    } else if lo > hi || lo < -LIMIT || hi > LIMIT {
+    } else if range.lo > range.hi || range.lo < -LIMIT || range.hi > LIMIT {
         Err(AllowRefusal::Range)
     } else {
         Ok(())

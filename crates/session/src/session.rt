@@ -1,16 +1,18 @@
 // A session on one travel.
 ghost use Rattle.std.specs.Prelude.{◌≡◌, false, is_ok, IfOk};
+ghost use Rattle.std.specs.List.{list_all};
 ghost use Rattle.model.specs.Environments.{fit};
 ghost use Rattle.model.specs.Whole.{TheEnding};
 ghost use Rattle.program.specs.Entry.{line_said, line_answer};
 ghost use Rattle.runner.specs.Drying.{start};
-ghost use Rattle.session.specs.Answers.{all_fit, allow_said, allow_answer, dry_said, dry_answer};
+ghost use Rattle.session.specs.Answers.{allow_said, allow_answer, dry_said, dry_answer};
 ghost use Rattle.session.specs.Memory.{memory, blank, after_line, after_allow};
 
 use crate::ranges::Ranges;
 use crate::refusal::{AllowRefusal, DryRefusal};
 use model::ending::Ending;
 use model::expression::LIMIT;
+use model::range::Range;
 use model::register::PARAMETERS;
 use program::refusal::LineRefusal;
 use program::table::Program;
@@ -30,18 +32,13 @@ pub struct Session<T> {
 fn fits(v: i32) -> bool
     ensures { result ≡ fit v }
 {
-    v >= -LIMIT && v <= LIMIT
+    (-LIMIT..=LIMIT).contains(&v)
 }
 
 fn all_fit(values: &[i32]) -> bool
-    ensures { result ≡ all_fit values.now }
+    ensures { result ≡ list_all fit values.now }
 {
-    for v in values {
-        if !fits(*v) {
-            return false;
-        }
-    }
-    true
+    values.iter().all(|v| fits(*v))
 }
 
 impl<T: Travel> Session<T> {
@@ -68,13 +65,13 @@ impl<T: Travel> Session<T> {
     }
 
     // Allows a parameter a range.
-    pub fn allow(&mut self, parameter: u32, lo: i32, hi: i32) -> Result<(), AllowRefusal>
-        ensures says { allow_said result ≡ allow_answer parameter lo hi }
-        ensures does { memory self.new ≡ after_allow (memory self.old) parameter lo hi }
+    pub fn allow(&mut self, parameter: u32, range: Range) -> Result<(), AllowRefusal>
+        ensures says { allow_said result ≡ allow_answer parameter range }
+        ensures does { memory self.new ≡ after_allow (memory self.old) parameter range }
         ensures travel { self.new.travel ≡ self.old.travel }
         ensures untouched { is_ok result ≡ false → self.new ≡ self.old }
     {
-        self.ranges.allow(parameter, lo, hi)
+        self.ranges.allow(parameter, range)
     }
 
     // Forgets lines and ranges.

@@ -15,14 +15,9 @@ impl Program {
         ensures same { is_ok result ≡ false → self.new ≡ self.old }
     {
         if self.is_full() {
-            return Err(LineRefusal::Table(TableRefusal::Lines));
+            return Err(TableRefusal::Lines.into());
         }
-        match read(text) {
-            Err(e) => Err(LineRefusal::Text(e)),
-            Ok(line) => match self.push(line) {
-                Err(e) => Err(LineRefusal::Table(e)),
-                Ok(()) => Ok(()),
-            },
-        }
+        let line = read(text)?;
+        Ok(self.push(line)?)
     }
 }

@@ -1,13 +1,14 @@
 // How a table is begun, and how it takes its next line.
-ghost use Rattle.std.specs.Prelude.{◌≡◌, ◌<◌, false, ◌&&◌, [], ◌∷◌, ◌++◌, is_some, IfSome, is_ok, Some, ◌==◌, slice_index_or};
+ghost use Rattle.std.specs.Prelude.{◌≡◌, ◌<◌, false, ◌&&◌, [], ◌∷◌, ◌++◌, length, is_some, IfSome, is_ok, Some, ◌==◌, slice_index_or};
 ghost use Rattle.model.specs.declared.block.Role.TheVariants.{Opens, Ends, Neither};
 ghost use Rattle.model.specs.Blocks.{role_of, open_blocks, labels};
 ghost use Rattle.program.specs.Agree.{Last, no_block};
-ghost use Rattle.program.specs.Held.{held};
+ghost use Rattle.program.specs.Held.{held, held_blocks};
 ghost use Rattle.program.specs.Refusals.{max_lines, same_kind, fits, role_answer, push_answer, pushed};
 
+use crate::rack::Rack;
 use crate::refusal::TableRefusal;
-use crate::table::{MAX_BLOCKS, MAX_LINES, Program};
+use crate::table::Program;
 use model::block::{Block, BlockKind, Role, role_of};
 use model::expression::{Condition, Rel, Term};
 use model::line::Line;
@@ -25,21 +26,11 @@ const NO_BLOCK: Block = Block {
     end: None,
 };
 
-fn is_same_kind(a: BlockKind, b: BlockKind) -> bool
-    ensures { result ≡ same_kind a b }
-{
-    match (a, b) {
-        (BlockKind::While, BlockKind::While) => true,
-        (BlockKind::If, BlockKind::If) => true,
-        (_, _) => false,
-    }
-}
-
 // Whether an end of this kind and label is the block's own.
 fn is_ended_by(block: Block, kind: BlockKind, label: u16) -> bool
     ensures { result ≡ (same_kind block.kind kind && block.label == label) }
 {
-    is_same_kind(block.kind, kind) && block.label == label
+    block.kind == kind && block.label == label
 }
 
 impl Program {
@@ -47,38 +38,27 @@ impl Program {
         ensures { held result ≡ [] }
     {
         Program {
-            lines: [Line::Plain; MAX_LINES],
-            line_count: 0,
-            blocks: [NO_BLOCK; MAX_BLOCKS],
-            block_count: 0,
+            lines: Rack::new(Line::Plain),
+            blocks: Rack::new(NO_BLOCK),
         }
     }
 
     // The number of the innermost open block, if an end of this kind and label fits it.
     fn fitting(&self, kind: BlockKind, label: u16) -> Option<usize>
         ensures test { is_some result ≡ fits (open_blocks (held self.now)) kind label }
-        ensures last { IfSome result (λ i. Last self.now.blocks self.now.block_count (Some i) × ((slice_index_or self.now.blocks i no_block).label ≡ label)) }
+        ensures last { IfSome result (λ i. Last (held_blocks self.now) (Some i) × ((slice_index_or (held_blocks self.now) i no_block).label ≡ label)) }
     {
-        match self.innermost() {
-            None => None,
-            Some(i) => {
-                if is_ended_by(self.blocks[i], kind, label) {
-                    Some(i)
-                } else {
-                    None
-                }
-            }
-        }
+        let number = self.innermost()?;
+        is_ended_by(self.blocks.as_slice()[number], kind, label).then_some(number)
     }
 
     // Adds a line that is no block's first or end.
     fn keep(&mut self, line: Line)
-        requires room { self.old.line_count < max_lines }
+        requires room { length (held self.old) < max_lines }
         requires role { role_of line ≡ Neither }
         ensures { held self.new ≡ held self.old ++ (line ∷ []) }
     {
-        self.lines[self.line_count] = line;
-        self.line_count += 1;
+        self.lines.push(line);
     }
 
     // Adds a line that opens a block, unless the label is had or the table of blocks is full.
@@ -89,7 +69,7 @@ impl Program {
         label: u16,
         condition: Condition,
     ) -> Result<(), TableRefusal>
-        requires room { self.old.line_count < max_lines }
+        requires room { length (held self.old) < max_lines }
         requires role { role_of line ≡ Opens kind label condition }
         ensures says { result ≡ role_answer (open_blocks (held self.old)) (labels (held self.old)) (Opens kind label condition) }
         ensures held { held self.new ≡ pushed result (held self.old) line }
@@ -98,36 +78,36 @@ impl Program {
         if self.block_number(label).is_some() {
             return Err(TableRefusal::Label);
         }
-        if self.block_count >= MAX_BLOCKS {
+        if self.blocks.is_full() {
             return Err(TableRefusal::Blocks);
         }
-        self.blocks[self.block_count] = Block {
+        let first = self.lines.len() + 1;
+        self.blocks.push(Block {
             kind,
             label,
             condition,
-            first: self.line_count + 1,
+            first,
             end: None,
-        };
-        self.block_count += 1;
-        self.lines[self.line_count] = line;
-        self.line_count += 1;
+        });
+        self.lines.push(line);
         Ok(())
     }
 
     // Adds a line that ends the innermost open block, unless it is no end of that.
     fn end(&mut self, line: Line, kind: BlockKind, label: u16) -> Result<(), TableRefusal>
-        requires room { self.old.line_count < max_lines }
+        requires room { length (held self.old) < max_lines }
         requires role { role_of line ≡ Ends kind label }
         ensures says { result ≡ role_answer (open_blocks (held self.old)) (labels (held self.old)) (Ends kind label) }
         ensures held { held self.new ≡ pushed result (held self.old) line }
         ensures same { is_ok result ≡ false → self.new ≡ self.old }
     {
-        let Some(i) = self.fitting(kind, label) else {
+        let Some(number) = self.fitting(kind, label) else {
             return Err(TableRefusal::End);
         };
-        self.blocks[i].end = Some(self.line_count + 1);
-        self.lines[self.line_count] = line;
-        self.line_count += 1;
+        let end = Some(self.lines.len() + 1);
+        let block = self.blocks.as_slice()[number];
+        self.blocks.set(number, Block { end, ..block });
+        self.lines.push(line);
         Ok(())
     }
 
@@ -137,7 +117,7 @@ impl Program {
         ensures held { held self.new ≡ pushed result (held self.old) line }
         ensures same { is_ok result ≡ false → self.new ≡ self.old }
     {
-        if self.line_count >= MAX_LINES {
+        if self.is_full() {
             return Err(TableRefusal::Lines);
         }
         match role_of(line) {

@@ -3,10 +3,10 @@ ghost use Rattle.std.specs.Prelude.{◌≡◌, ◌<◌, true, length, IfSome, na
 ghost use Rattle.model.specs.Blocks.{labels, block_number, block_of, closed};
 ghost use Rattle.model.specs.Programs.{Closed};
 ghost use Rattle.program.specs.Agree.{Last};
-ghost use Rattle.program.specs.Held.{held};
+ghost use Rattle.program.specs.Held.{held, held_blocks};
 ghost use Rattle.program.specs.Refusals.{max_lines};
 
-use crate::table::{MAX_LINES, Program};
+use crate::table::Program;
 use model::block::Block;
 use model::line::Line;
 
@@ -14,20 +14,20 @@ impl Program {
     pub fn lines(&self) -> &[Line]
         ensures { result.now ≡ held self.now }
     {
-        &self.lines[0..self.line_count]
+        self.lines.as_slice()
     }
 
     // Whether the next line is refused, whatever it is.
     pub(super) fn is_full(&self) -> bool
         ensures { result ≡ nat_le max_lines (length (held self.now)) }
     {
-        self.line_count >= MAX_LINES
+        self.lines.is_full()
     }
 
     pub fn block_count(&self) -> usize
         ensures { result ≡ length (labels (held self.now)) }
     {
-        self.block_count
+        self.blocks.len()
     }
 
     // The number of the block that has the label, from 0.
@@ -35,34 +35,28 @@ impl Program {
         ensures is { result ≡ block_number (held self.now) label }
         ensures within { IfSome result (λ i. i < length (labels (held self.now))) }
     {
-        for i in 0..self.block_count {
-            if self.blocks[i].label == label {
-                return Some(i);
-            }
-        }
-        None
+        self.blocks
+            .as_slice()
+            .iter()
+            .position(|block| block.label == label)
     }
 
     // The block that has the label: its kind, its condition, and the numbers of its lines.
     pub fn block(&self, label: u16) -> Option<Block>
         ensures { result ≡ block_of (held self.now) label }
     {
-        match self.block_number(label) {
-            None => None,
-            Some(i) => Some(self.blocks[i]),
-        }
+        let number = self.block_number(label)?;
+        Some(self.blocks.as_slice()[number])
     }
 
     // The number of the last block that has no end.
     pub(super) fn innermost(&self) -> Option<usize>
-        ensures { Last self.now.blocks self.now.block_count result }
+        ensures { Last (held_blocks self.now) result }
     {
-        for i in (0..self.block_count).rev() {
-            if self.blocks[i].end.is_none() {
-                return Some(i);
-            }
-        }
-        None
+        self.blocks
+            .as_slice()
+            .iter()
+            .rposition(|block| block.end.is_none())
     }
 
     // Whether no block is open. Then the blocks are nested, and each has its end.

@@ -18,13 +18,13 @@ impl Ranges {
     }
 
     // Allows the parameter, from 1, a range, or says why not and changes nothing.
-    pub fn allow(&mut self, parameter: u32, lo: i32, hi: i32) -> Result<(), AllowRefusal>
-        ensures says { allow_said result ≡ allow_answer parameter lo hi }
-        ensures does { self.new.each ≡ ranges_after self.old.each parameter lo hi }
+    pub fn allow(&mut self, parameter: u32, range: Range) -> Result<(), AllowRefusal>
+        ensures says { allow_said result ≡ allow_answer parameter range }
+        ensures does { self.new.each ≡ ranges_after self.old.each parameter range }
         ensures same { is_ok result ≡ false → self.new ≡ self.old }
     {
-        check_range(parameter, lo, hi)?;
-        self.each[parameter as usize - 1] = Range { lo, hi };
+        check_range(parameter, range)?;
+        self.each[parameter as usize - 1] = range;
         Ok(())
     }
 }

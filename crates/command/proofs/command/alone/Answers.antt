@@ -1,10 +1,10 @@
-use Rattle.std.proofs.Common.{sym}
-use Rattle.std.proofs.lemmas.Bool.{eqb-true, eqb-false}
-use Rattle.command.proofs.Choosing.{stands_alone, not_alone}
+-- The command stands alone exactly if no byte follows.
+use Rattle.std.proofs.Common.{◌≡◌, cond, option_map, Some, None, ◌∙◌, rules}
+use Rattle.command.specs.Commands.{meant}
+use Rattle.command.proofs.Choosing.{alone_if}
 use Rattle.command.proofs.command.alone.Goals as goal
 
-pub returns-then-is_empty : goal.returns-then-is_empty
-returns-then-is_empty c = stands_alone _ _ (eqb-true _ _ (sym c.if-is_empty.ensures))
-
-pub returns-else-is_empty : goal.returns-else-is_empty
-returns-else-is_empty c = not_alone _ _ (eqb-false _ _ (sym c.if-is_empty.ensures))
+pub returns : goal.returns
+returns c =
+    let given : option_map meant c.then_some.result ≡ cond c.is_empty.result (Some (meant c.args.command)) None = search rules in
+    given ∙ alone_if _ _ _ c.is_empty.ensures

@@ -1,23 +1,19 @@
-use Rattle.std.proofs.Common.{sym, w32, SFits, rules}
-use Rattle.std.proofs.lemmas.List.{length-replicate}
+use Rattle.std.proofs.Common.{◌≡◌, cond, Some, None, ◌∙◌, w32, SFits, rules}
 use Rattle.std.proofs.lemmas.Int.{to_z-of_z}
-use Rattle.std.proofs.lemmas.Bool.{eqb-true, eqb-false}
-use Rattle.command.proofs.Counts.{none_read, stops, goes_on, all_read, too_many}
+use Rattle.command.proofs.Counts.{stops, goes_on, whole_if}
 use Rattle.command.proofs.numbers.numbers.Goals as goal
 
-pub loop-i-init : goal.loop-i-init
-loop-i-init g c = none_read _ _ _ (length-replicate _ _)
+pub returns-in_err-number : goal.returns-in_err-number
+returns-in_err-number g c =
+    let none : c.from_residual.result ≡ None = search rules in
+    none ∙ stops _ _ _ _ _ c.loop-value.invariant c.loop-value-test.true c.in_err-number.ensures
 
-pub returns-in-None : goal.returns-in-None
-returns-in-None g c = stops _ _ _ _ _ c.loop-i.invariant c.loop-i-test.true c.in-None.ensures
+pub loop-value-preserved : goal.loop-value-preserved
+loop-value-preserved g c =
+    let fits : SFits w32 c.in_ok-number.number = search rules in
+    simp to_z-of_z (goes_on _ _ _ _ _ c.loop-value.invariant _ _ c.loop-value-test.true c.in_ok-number.ensures)
 
-pub loop-i-preserved : goal.loop-i-preserved
-loop-i-preserved g c =
-    let fits : SFits w32 c.in-Some.value = search rules in
-    simp to_z-of_z (goes_on _ _ _ _ _ c.loop-i.invariant _ _ c.loop-i-test.true c.in-Some.ensures)
-
-pub returns-then-is_empty : goal.returns-then-is_empty
-returns-then-is_empty g c = all_read _ _ _ _ _ c.loop-i.invariant c.loop-i-test.false (eqb-true _ _ (sym c.if-is_empty.ensures))
-
-pub returns-else-is_empty : goal.returns-else-is_empty
-returns-else-is_empty g c = too_many _ _ _ _ _ c.loop-i.invariant c.loop-i-test.false (eqb-false _ _ (sym c.if-is_empty.ensures))
+pub returns : goal.returns
+returns g c =
+    let given : c.then_some.result ≡ cond c.is_empty.result (Some c.loop-value.value-items) None = search rules in
+    given ∙ whole_if _ _ _ _ _ c.loop-value.invariant c.loop-value-test.false _ c.is_empty.ensures

@@ -1,5 +1,5 @@
 use Rattle.command.proofs.Counts.{Read}
 use Rattle.command.proofs.numbers.numbers.Given as goal
 
-abbrev pub invariant-loop-i : goal.invariant-loop-i
-invariant-loop-i g l = Read g.row.N l.i l.text l.rest l.values
+abbrev pub invariant-loop-value : goal.invariant-loop-value
+invariant-loop-value g l = Read g.row.N l.value-index l.text l.rest l.value-items

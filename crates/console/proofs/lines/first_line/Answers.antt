@@ -1,10 +1,8 @@
+-- The first line ends at the first line feed, or with the text.
 use Rattle.std.proofs.Common.{sym}
-use Rattle.std.proofs.lemmas.Bool.{eqb-true, eqb-false}
-use Rattle.console.proofs.Cuts.{cut_empty, line_there, line_last}
+use Rattle.std.proofs.lemmas.Bool.{eqb-false}
+use Rattle.console.proofs.Cuts.{line_there, line_last}
 use Rattle.console.proofs.lines.first_line.Goals as goal
-
-pub returns-then-is_empty : goal.returns-then-is_empty
-returns-then-is_empty c = cut_empty _ (eqb-true _ _ (sym c.if-is_empty.ensures))
 
 pub returns-then-n-text : goal.returns-then-n-text
 returns-then-n-text c = line_there _ _ c.len_until-n.ensures.is c.if-n-text.true

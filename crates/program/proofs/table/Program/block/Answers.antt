@@ -1,16 +1,18 @@
 -- The block of a number that was found.
-use Rattle.std.proofs.Common.{arith}
+use Rattle.std.proofs.Common.{◌≡◌, None, length, ap, ◌∙◌, arith, rules}
 use Rattle.program.proofs.Lookup.{block_total, block_found, block_missing}
 use Rattle.program.proofs.table.Program.block.Goals as goal
 
-pub offset_bounds-self-i : goal.offset_bounds-self-i
-offset_bounds-self-i c = omega (arith, block_total c.args.self.now, c.in-Some.ensures.within)
+pub returns-in_err-number : goal.returns-in_err-number
+returns-in_err-number c =
+    let none : c.from_residual.result ≡ None = search rules in
+    none ∙ block_missing c.args.self.now _ c.in_err-number.ensures.is
 
-pub bounds-self-i : goal.bounds-self-i
-bounds-self-i c = omega (arith, block_total c.args.self.now, c.in-Some.ensures.within)
+pub offset_bounds-as_slice-number : goal.offset_bounds-as_slice-number
+offset_bounds-as_slice-number c = omega (arith, block_total c.args.self.now, ap length c.as_slice.ensures.is, c.in_ok-number.ensures.within)
 
-pub returns-in-None : goal.returns-in-None
-returns-in-None c = block_missing c.args.self.now _ c.in-None.ensures.is
+pub bounds-as_slice-number : goal.bounds-as_slice-number
+bounds-as_slice-number c = omega (arith, block_total c.args.self.now, ap length c.as_slice.ensures.is, c.in_ok-number.ensures.within)
 
-pub returns-in-Some : goal.returns-in-Some
-returns-in-Some c = block_found c.args.self.now _ _ c.in-Some.ensures.within c.in-Some.ensures.is
+pub returns : goal.returns
+returns c = rw c.as_slice.ensures.is (block_found c.args.self.now _ _ c.in_ok-number.ensures.is)

@@ -1,23 +1,14 @@
 -- An end fits if it is that of the innermost open block.
-use Rattle.std.proofs.Common.{sym, ◌∙◌}
-use Rattle.std.proofs.lemmas.Bool.{and_parts, eqb-true}
+use Rattle.std.proofs.Common.{◌≡◌, is_some, None, sym, ap, ◌∙◌, rules}
 use Rattle.program.proofs.Lookup.{fits_none, fits_top}
 use Rattle.program.proofs.table.Program.fitting.Goals as goal
 
-pub returns-in-None : goal.returns-in-None
-returns-in-None c = record { test = fits_none c.args.self.now _ _ c.in-None.ensures; last = tt }
+pub returns-in_err-number-clause-test : goal.returns-in_err-number-clause-test
+returns-in_err-number-clause-test c =
+    let none : c.from_residual.result ≡ None = search rules in
+    ap is_some none ∙ fits_none c.args.self.now _ _ c.in_err-number.ensures
 
-pub returns-then-is_ended_by : goal.returns-then-is_ended_by
-returns-then-is_ended_by c =
-    let yes = sym c.if-is_ended_by.true ∙ c.is_ended_by.ensures in
-    record {
-      test = yes ∙ fits_top c.args.self.now _ _ _ c.in-Some.ensures;
-      last = (c.in-Some.ensures, eqb-true _ _ (and_parts _ _ (sym yes)).1);
-    }
-
-pub returns-else-is_ended_by : goal.returns-else-is_ended_by
-returns-else-is_ended_by c =
-    record {
-      test = sym c.if-is_ended_by.false ∙ c.is_ended_by.ensures ∙ fits_top c.args.self.now _ _ _ c.in-Some.ensures;
-      last = tt;
-    }
+pub returns-clause-test : goal.returns-clause-test
+returns-clause-test c =
+    let some : is_some c.then_some.result ≡ c.is_ended_by.result = search rules in
+    some ∙ c.is_ended_by.ensures ∙ rw c.as_slice.ensures.is (fits_top c.args.self.now _ _ _ c.in_ok-number.ensures)
