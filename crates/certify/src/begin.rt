@@ -7,7 +7,7 @@ ghost use Rattle.sweep.specs.Starts.{start};
 use domain::domain::Domain;
 use model::range::Range;
 use model::register::{AXES, PARAMETERS};
-use model::side::Position;
+use model::axes::Position;
 
 // The register has this number alone.
 fn pinned<D: Domain>(state: D, register: usize, n: i32) -> D

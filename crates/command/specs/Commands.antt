@@ -1,7 +1,7 @@
 -- What a line asks for: its first word chooses, and the words after it must be exactly so many numbers.
 use Rattle.std.specs.Prelude.{ℕ, ◌+◌, List, [], ◌∷◌, length, take, drop, ℤ, pos, negsuc, Some, None, Option}
 use Rattle.model.specs.declared.range.Range.{Range}
-use Rattle.model.specs.Axes.{Position}
+use Rattle.model.specs.declared.axes.Ends.{Ends}
 use Rattle.model.specs.Environments.{at, position, parameters}
 use Rattle.command.specs.declared.command.Command.{Command}
 use Rattle.command.specs.declared.word.Word.{Word}
@@ -13,8 +13,8 @@ use Rattle.command.specs.Numbers.{numbers_of}
 pub data Meant : Type 0 where
   bench_gantry : Meant
   bench_beam : Meant
-  gantry : (lower upper home : Position) → Meant
-  beam : (lower upper home : Position) (gap : ℤ) → Meant
+  gantry : (ends : Ends) → Meant
+  beam : (ends : Ends) (gap : ℤ) → Meant
   line : (text : List ℕ) → Meant
   allow : (parameter : ℤ) (range : Range) → Meant
   wipe : Meant
@@ -23,22 +23,25 @@ pub data Meant : Type 0 where
 abbrev pub meant : Command → Meant
 meant Command.BenchGantry = bench_gantry
 meant Command.BenchBeam = bench_beam
-meant (Command.Gantry lower upper home) = gantry lower upper home
-meant (Command.Beam lower upper home gap) = beam lower upper home gap
+meant (Command.Gantry ends) = gantry ends
+meant (Command.Beam ends gap) = beam ends gap
 meant (Command.Line text) = line text.now
 meant (Command.Allow parameter range) = allow parameter range
 meant Command.Wipe = wipe
 meant (Command.Dry values steps) = dry values steps
 
 -- lower X Y Z U, upper X Y Z U, home X Y Z U
+abbrev pub ends_of : List ℤ → Ends
+ends_of ns = record { lower = position ns; home = position (drop 8 ns); upper = position (drop 4 ns) }
+
 abbrev pub as_gantry : Option (List ℤ) → Option Meant
 as_gantry None = None
-as_gantry (Some ns) = Some (gantry (position ns) (position (drop 4 ns)) (position (drop 8 ns)))
+as_gantry (Some ns) = Some (gantry (ends_of ns))
 
 -- the same and then the gap
 abbrev pub as_beam : Option (List ℤ) → Option Meant
 as_beam None = None
-as_beam (Some ns) = Some (beam (position ns) (position (drop 4 ns)) (position (drop 8 ns)) (at ns 12))
+as_beam (Some ns) = Some (beam (ends_of ns) (at ns 12))
 
 -- parameter, low, high
 abbrev pub as_allow : Option (List ℤ) → Option Meant

@@ -14,30 +14,21 @@ ghost use Rattle.std.specs.Prelude.{◌≡◌, ◌+◌, ◌≤◌, length, drop,
 ghost use Rattle.model.specs.Environments.{position};
 ghost use Rattle.command.specs.Words.{arguments};
 ghost use Rattle.command.specs.Numbers.{numbers_of};
-ghost use Rattle.command.specs.Commands.{meant, as_gantry, as_beam, as_allow, as_dry, alone, chosen, command_of};
+ghost use Rattle.command.specs.Commands.{meant, ends_of, as_gantry, as_beam, as_allow, as_dry, alone, chosen, command_of};
 
 use crate::numbers::numbers;
 use crate::word::{Word, word_of};
+use model::axes::{Ends, Position};
 use model::range::Range;
 use model::register::PARAMETERS;
-use model::side::Position;
 use words::len_until;
 
 #[derive(Clone, Copy)]
 pub enum Command<'a> {
     BenchGantry,
     BenchBeam,
-    Gantry {
-        lower: Position,
-        upper: Position,
-        home: Position,
-    },
-    Beam {
-        lower: Position,
-        upper: Position,
-        home: Position,
-        gap: i32,
-    },
+    Gantry(Ends),
+    Beam(Ends, i32),
     Line(&'a [u8]),
     Allow {
         parameter: i32,
@@ -63,27 +54,29 @@ fn position_at(numbers: &[i32], first: usize) -> Position
     }
 }
 
+// lower X Y Z U, upper X Y Z U, home X Y Z U
+fn ends_of(numbers: &[i32]) -> Ends
+    requires { 12 ≤ length numbers.now }
+    ensures { result ≡ ends_of numbers.now }
+{
+    Ends {
+        lower: position_at(numbers, 0),
+        upper: position_at(numbers, 4),
+        home: position_at(numbers, 8),
+    }
+}
+
 fn gantry(text: &[u8]) -> Option<Command>
     ensures { option_map meant result ≡ as_gantry (numbers_of 12 (arguments text.now)) }
 {
-    let numbers = numbers::<12>(text)?;
-    Some(Command::Gantry {
-        lower: position_at(&numbers, 0),
-        upper: position_at(&numbers, 4),
-        home: position_at(&numbers, 8),
-    })
+    Some(Command::Gantry(ends_of(&numbers::<12>(text)?)))
 }
 
 fn beam(text: &[u8]) -> Option<Command>
     ensures { option_map meant result ≡ as_beam (numbers_of 13 (arguments text.now)) }
 {
     let numbers = numbers::<13>(text)?;
-    Some(Command::Beam {
-        lower: position_at(&numbers, 0),
-        upper: position_at(&numbers, 4),
-        home: position_at(&numbers, 8),
-        gap: numbers[12],
-    })
+    Some(Command::Beam(ends_of(&numbers), numbers[12]))
 }
 
 fn allow(text: &[u8]) -> Option<Command>

@@ -2,9 +2,10 @@
 use Rattle.std.specs.Prelude.{◌≡◌, ℕ, List, ℤ, pos, negsuc, Some, None, Ok, Err, Option, Result}
 use Rattle.model.specs.declared.ending.Ending.{Ending}
 use Rattle.model.specs.Axes.{Position}
+use Rattle.model.specs.declared.axes.Ends.{Ends}
 use Rattle.model.specs.declared.side.Side.{Side}
 use Rattle.model.specs.Whole.{TheEnding}
-use Rattle.command.specs.Commands.{Meant, bench_gantry, bench_beam, gantry, beam, line, allow, wipe, dry}
+use Rattle.command.specs.Commands.{Meant, bench_gantry as ask_gantry, bench_beam as ask_beam, gantry, beam, line, allow, wipe, dry}
 use Rattle.program.specs.Entry.{LineAnswer, taken, turned_down, line_answer}
 use Rattle.runner.specs.Drying.{start}
 use Rattle.session.specs.Answers.{allow_answer, dry_answer}
@@ -45,41 +46,43 @@ Calls ss h m n (line s) a after = (a ≡ by_line (line_answer m.program s)) × (
 Calls ss h m n (allow p r) a after = (a ≡ by_number (allow_answer (natural p) r)) × (after ≡ after_allow m (natural p) r)
 Calls ss h m n wipe a after = (a ≡ done) × (after ≡ blank)
 Calls ss h m n (dry vs k) a after = Dries ss h m vs k (dry_answer m.program vs k) a × (after ≡ m)
-Calls ss h m n bench_gantry a after = (a ≡ bad_at n) × (after ≡ m)
-Calls ss h m n bench_beam a after = (a ≡ bad_at n) × (after ≡ m)
-Calls ss h m n (gantry lo hi at) a after = (a ≡ bad_at n) × (after ≡ m)
-Calls ss h m n (beam lo hi at gap) a after = (a ≡ bad_at n) × (after ≡ m)
+Calls ss h m n ask_gantry a after = (a ≡ bad_at n) × (after ≡ m)
+Calls ss h m n ask_beam a after = (a ≡ bad_at n) × (after ≡ m)
+Calls ss h m n (gantry ends) a after = (a ≡ bad_at n) × (after ≡ m)
+Calls ss h m n (beam ends gap) a after = (a ≡ bad_at n) × (after ≡ m)
 
 -- ---- tables
 -- the tables of the examples
 abbrev pub bench_lower : Position
 bench_lower = record { x = pos 0; y = pos 0; z = negsuc 79999; u = pos 0 }
 
-abbrev pub gantry_upper : Position
-gantry_upper = record { x = pos 2500000; y = pos 1250000; z = pos 0; u = pos 0 }
+abbrev pub bench_gantry : Ends
+bench_gantry = record {
+  lower = bench_lower;
+  home = record { x = pos 0; y = pos 0; z = pos 0; u = pos 0 };
+  upper = record { x = pos 2500000; y = pos 1250000; z = pos 0; u = pos 0 };
+}
 
-abbrev pub gantry_home : Position
-gantry_home = record { x = pos 0; y = pos 0; z = pos 0; u = pos 0 }
-
-abbrev pub beam_upper : Position
-beam_upper = record { x = pos 2500000; y = pos 1250000; z = pos 0; u = pos 2500000 }
-
-abbrev pub beam_home : Position
-beam_home = record { x = pos 0; y = pos 0; z = pos 0; u = pos 2500000 }
+abbrev pub bench_beam : Ends
+bench_beam = record {
+  lower = bench_lower;
+  home = record { x = pos 0; y = pos 0; z = pos 0; u = pos 2500000 };
+  upper = record { x = pos 2500000; y = pos 1250000; z = pos 0; u = pos 2500000 };
+}
 
 abbrev pub Table : Type 0
 Table = Either Gantry Beam
 
--- a gantry with these ends and this home, or why there is none
-abbrev pub OnGantry : Position → Position → Position → Result Table TravelRefusal → Type 0
-OnGantry lower upper home (Ok (First g)) = GantryMade lower home upper (Ok g)
-OnGantry lower upper home (Ok (Second b)) = ⊥
-OnGantry lower upper home (Err e) = GantryMade lower home upper (Err e)
+-- a gantry with these ends, or why there is none
+abbrev pub OnGantry : Ends → Result Table TravelRefusal → Type 0
+OnGantry ends (Ok (First g)) = GantryMade ends (Ok g)
+OnGantry ends (Ok (Second b)) = ⊥
+OnGantry ends (Err e) = GantryMade ends (Err e)
 
-abbrev pub OnBeam : Position → Position → Position → ℤ → Result Table TravelRefusal → Type 0
-OnBeam lower upper home gap (Ok (First g)) = ⊥
-OnBeam lower upper home gap (Ok (Second b)) = BeamMade lower home upper gap (Ok b)
-OnBeam lower upper home gap (Err e) = BeamMade lower home upper gap (Err e)
+abbrev pub OnBeam : Ends → ℤ → Result Table TravelRefusal → Type 0
+OnBeam ends gap (Ok (First g)) = ⊥
+OnBeam ends gap (Ok (Second b)) = BeamMade ends gap (Ok b)
+OnBeam ends gap (Err e) = BeamMade ends gap (Err e)
 
 abbrev pub SomeTable : (Result Table TravelRefusal → Type 0) → Option (Result Table TravelRefusal) → Type 0
 SomeTable P None = ⊥
@@ -91,10 +94,10 @@ NoTable (Some r) = ⊥
 
 -- the table that a command names, if it names one
 abbrev pub Names : Meant → Option (Result Table TravelRefusal) → Type 0
-Names bench_gantry r = SomeTable (OnGantry bench_lower gantry_upper gantry_home) r
-Names bench_beam r = SomeTable (OnBeam bench_lower beam_upper beam_home (pos 90000)) r
-Names (gantry lo hi at) r = SomeTable (OnGantry lo hi at) r
-Names (beam lo hi at gap) r = SomeTable (OnBeam lo hi at gap) r
+Names ask_gantry r = SomeTable (OnGantry bench_gantry) r
+Names ask_beam r = SomeTable (OnBeam bench_beam (pos 90000)) r
+Names (gantry ends) r = SomeTable (OnGantry ends) r
+Names (beam ends gap) r = SomeTable (OnBeam ends gap) r
 Names (line s) r = NoTable r
 Names (allow p range) r = NoTable r
 Names wipe r = NoTable r
@@ -108,7 +111,7 @@ Changes s (Err e) a after = (a ≡ refused (travel_number e) None) × (after ≡
 
 abbrev pub Served : Session Table → ℕ → Meant → Option (Result Table TravelRefusal) → Said → Session Table → Type 0
 Served s n c (Some r) a after = Changes s r a after
-Served s n c None a after = Calls (either gantry_sides beam_sides s.travel) (either (λ g. g.home) (λ b. b.base.home) s.travel) (memory s) n c a (memory after) × (after.travel ≡ s.travel)
+Served s n c None a after = Calls (either gantry_sides beam_sides s.travel) (either (λ g. g.ends.home) (λ b. b.base.ends.home) s.travel) (memory s) n c a (memory after) × (after.travel ≡ s.travel)
 
 -- a line on the session that stands: no command leaves it as it is
 abbrev pub Serves : Session Table → ℕ → Option Meant → Said → Session Table → Type 0

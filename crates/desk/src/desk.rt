@@ -3,12 +3,12 @@ ghost use Rattle.std.specs.Prelude.{◌≡◌, Ok};
 ghost use Rattle.command.specs.Commands.{meant, command_of};
 ghost use Rattle.session.specs.Memory.{memory};
 ghost use Rattle.desk.specs.Answers.{said, said_or_why};
-ghost use Rattle.desk.specs.Serving.{Calls, OnGantry, OnBeam, Names, Changes, Serves, bench_lower, gantry_upper, gantry_home};
+ghost use Rattle.desk.specs.Serving.{Calls, OnGantry, OnBeam, Names, Changes, Serves, bench_gantry};
 
 use crate::answer::{Answer, Refusal};
 use command::command::{Command, read_command};
 use either_travel::either::Either;
-use model::side::Position;
+use model::axes::{Ends, Position};
 use session::session::Session;
 use travel::beam::Beam;
 use travel::gantry::Gantry;
@@ -37,65 +37,67 @@ fn call<T: Travel>(session: &mut Session<T>, n: usize, command: Command) -> Resu
     Ok(Answer::Done)
 }
 
-const BENCH_LOWER: Position = Position {
-    x: 0,
-    y: 0,
-    z: -80_000,
-    u: 0,
+const BENCH_GANTRY: Ends = Ends {
+    lower: Position {
+        x: 0,
+        y: 0,
+        z: -80_000,
+        u: 0,
+    },
+    home: Position {
+        x: 0,
+        y: 0,
+        z: 0,
+        u: 0,
+    },
+    upper: Position {
+        x: 2_500_000,
+        y: 1_250_000,
+        z: 0,
+        u: 0,
+    },
 };
 
-const GANTRY_UPPER: Position = Position {
-    x: 2_500_000,
-    y: 1_250_000,
-    z: 0,
-    u: 0,
-};
-
-const GANTRY_HOME: Position = Position {
-    x: 0,
-    y: 0,
-    z: 0,
-    u: 0,
-};
-
-const BEAM_UPPER: Position = Position {
-    x: 2_500_000,
-    y: 1_250_000,
-    z: 0,
-    u: 2_500_000,
-};
-
-const BEAM_HOME: Position = Position {
-    x: 0,
-    y: 0,
-    z: 0,
-    u: 2_500_000,
+const BENCH_BEAM: Ends = Ends {
+    lower: Position {
+        x: 0,
+        y: 0,
+        z: -80_000,
+        u: 0,
+    },
+    home: Position {
+        x: 0,
+        y: 0,
+        z: 0,
+        u: 2_500_000,
+    },
+    upper: Position {
+        x: 2_500_000,
+        y: 1_250_000,
+        z: 0,
+        u: 2_500_000,
+    },
 };
 
 const BENCH_GAP: i32 = 90_000;
 
-fn on_gantry(lower: Position, upper: Position, home: Position) -> Result<Table, TravelRefusal>
-    ensures { OnGantry lower upper home result }
+fn on_gantry(ends: Ends) -> Result<Table, TravelRefusal>
+    ensures { OnGantry ends result }
 {
-    Gantry::new(lower, home, upper).map(Either::First)
+    Gantry::new(ends).map(Either::First)
 }
 
-fn on_beam(
-    lower: Position,
-    upper: Position,
-    home: Position,
-    gap: i32,
-) -> Result<Table, TravelRefusal>
-    ensures { OnBeam lower upper home gap result }
+fn on_beam(ends: Ends, gap: i32) -> Result<Table, TravelRefusal>
+    ensures { OnBeam ends gap result }
 {
-    Beam::new(lower, home, upper, gap).map(Either::Second)
+    Beam::new(ends, gap).map(Either::Second)
 }
 
 // The table a script begins on.
 pub fn first_table() -> Table
-    ensures { OnGantry bench_lower gantry_upper gantry_home (Ok result) }
+    ensures { OnGantry bench_gantry (Ok result) }
 {
-    let Ok(table) = on_gantry(BENCH_LOWER, GANTRY_UPPER, GANTRY_HOME) else {
+    let Ok(table) = on_gantry(BENCH_GANTRY) else {
         unreachable()
     };
     table
@@ -106,15 +108,10 @@ fn table_of(command: Command) -> Option<Result<Table, TravelRefusal>>
     ensures { Names (meant command.entry) result }
 {
     match command {
-        Command::BenchGantry => Some(on_gantry(BENCH_LOWER, GANTRY_UPPER, GANTRY_HOME)),
-        Command::BenchBeam => Some(on_beam(BENCH_LOWER, BEAM_UPPER, BEAM_HOME, BENCH_GAP)),
-        Command::Gantry { lower, upper, home } => Some(on_gantry(lower, upper, home)),
-        Command::Beam {
-            lower,
-            upper,
-            home,
-            gap,
-        } => Some(on_beam(lower, upper, home, gap)),
+        Command::BenchGantry => Some(on_gantry(BENCH_GANTRY)),
+        Command::BenchBeam => Some(on_beam(BENCH_BEAM, BENCH_GAP)),
+        Command::Gantry(ends) => Some(on_gantry(ends)),
+        Command::Beam(ends, gap) => Some(on_beam(ends, gap)),
         _ => None,
     }
 }

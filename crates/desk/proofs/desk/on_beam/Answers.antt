@@ -7,4 +7,4 @@ pub returns : goal.returns
 returns c =
     let fits : SFits w32 c.args.gap = c.ranges.gap in
     let gap : to_z w32 (of_z w32 c.args.gap) ≡ c.args.gap = simp to_z-of_z in
-    subst (λ z. OnBeam c.args.lower c.args.upper c.args.home z c.map.result) gap (search rules)
+    subst (λ z. OnBeam c.args.ends z c.map.result) gap (search rules)

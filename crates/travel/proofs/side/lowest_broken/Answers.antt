@@ -1,7 +1,6 @@
 -- The first side that does not hold is the lowest broken one; where none is left, there is none.
-use Rattle.std.proofs.Common.{◌≤◌, length, sym, ◌∙◌, arith}
-use Rattle.std.proofs.lemmas.List.{at_drop_all}
-use Rattle.model.specs.Sides.{kept, lowest}
+use Rattle.std.proofs.Common.{sym, ◌∙◌}
+use Rattle.model.specs.Sides.{kept}
 use Rattle.travel.proofs.Broken.{found, passed, spent}
 use Rattle.travel.proofs.side.lowest_broken.Goals as goal
 
@@ -21,4 +20,3 @@ loop-n-preserved g c =
     let ss = g.T.Travel.sides c.args.travel.now in
     c.loop-n.invariant
     ∙ passed (kept c.args.p) ss c.loop-n.n _ c.in_ok-side.ensures c.if-not-holds.ensures
-

@@ -1,6 +1,5 @@
 -- A beam stands on a gantry that is made, and its gap is the one that was tested.
-use Rattle.std.proofs.Common.{sym, refl, w32, SFits, rules}
-use Rattle.std.proofs.lemmas.Result.{err_from_is_err_and}
+use Rattle.std.proofs.Common.{sym, w32, SFits, rules}
 use Rattle.std.proofs.lemmas.Int.{to_z-of_z}
 use Rattle.travel.proofs.Orders.{gap_wide}
 use Rattle.travel.proofs.beam.Beam.new.Goals as goal
