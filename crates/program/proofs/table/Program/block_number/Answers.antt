@@ -1,6 +1,5 @@
 -- The first block that has the label, or none.
-use Rattle.std.proofs.Common.{arith, rules}
-use Rattle.std.proofs.lemmas.Grind.{common_steps}
+use Rattle.std.proofs.Common.{rules}
 use Rattle.program.specs.Held.{held_blocks}
 use Rattle.program.proofs.Lookup.{First, block_total, number_is}
 use Rattle.program.proofs.table.Program.block_number.Goals as goal

@@ -1,5 +1,5 @@
 -- An end fits if it is that of the innermost open block.
-use Rattle.std.proofs.Common.{◌≡◌, is_some, None, sym, ap, ◌∙◌, rules}
+use Rattle.std.proofs.Common.{◌≡◌, is_some, None, ap, ◌∙◌, rules}
 use Rattle.program.proofs.Lookup.{fits_none, fits_top}
 use Rattle.program.proofs.table.Program.fitting.Goals as goal
 

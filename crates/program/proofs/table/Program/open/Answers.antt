@@ -1,5 +1,5 @@
 -- A line more, and the block that it opens.
-use Rattle.std.proofs.Common.{sym, arith, rules}
+use Rattle.std.proofs.Common.{sym}
 use Rattle.program.proofs.Growth.{taken_line, opens, says_opened}
 use Rattle.program.proofs.table.Program.open.Goals as goal
 
