@@ -1,5 +1,5 @@
 // What every domain answers.
-ghost use Rattle.std.specs.Prelude.{◌≡◌, ◌%◌, ◌^◌, ◌<◌, Bool, true, Option};
+ghost use Rattle.std.specs.Prelude.{◌≡◌, ℕ, ◌%◌, ◌^◌, ◌<◌, Bool, true, Option};
 ghost use Rattle.model.specs.Environments.{Env, registers};
 ghost use Rattle.domain.specs.Lattice.{Lattice, Lawful};
 ghost use Rattle.domain.specs.Nothing.{Strict};
@@ -11,8 +11,10 @@ use model::side::Side;
 
 // A state means a set of environments; each operation is that of the lattice, and the laws tie them to the meaning.
 pub trait Domain: Copy {
-    // The rank of none modulo 2^64; `rank_of_none` answers it under its law.
+    // The rank of none modulo 2^64.
     const NONE_RANK: u64;
+
+    ghost NONE_RANK: { ℕ };
 
     ghost lattice: { Lattice Self };
 
@@ -23,9 +25,6 @@ pub trait Domain: Copy {
     ghost exact: { Bool };
 
     ghost tracks: { Self → Option Env → Type 0 };
-
-    fn rank_of_none() -> u64
-        ensures { result ≡ lattice.rank lattice.none % 2 ^ 64 };
 
     fn any() -> Self
         ensures { result ≡ lattice.any };
@@ -62,6 +61,8 @@ pub trait Domain: Copy {
     fn range(&self, register: usize, range: Range) -> Range
         requires { register < registers }
         ensures { result ≡ lattice.range self.now register range };
+
+    ghost ranked: { NONE_RANK ≡ lattice.rank lattice.none % 2 ^ 64 };
 
     ghost lawful: { Lawful registers lattice };
 

@@ -1,8 +1,8 @@
 // Two domains side by side: a state means what both of its sides mean.
-ghost use Rattle.std.specs.Prelude.{◌≡◌, ◌<◌, ◌&&◌};
+ghost use Rattle.std.specs.Prelude.{◌≡◌, ◌<◌, ◌+◌, ◌%◌, ◌^◌, ◌&&◌};
 ghost use Rattle.model.specs.Environments.{registers};
 ghost use Rattle.domain.specs.Pairs.{pair, PairTracks, reduce, reduce_at};
-ghost use Rattle.domain.specs.PairLaws.{pair_lawful};
+ghost use Rattle.domain.specs.PairLaws.{pair_lawful, pair_ranked};
 ghost use Rattle.std.proofs.lemmas.Bool.{and_parts};
 ghost use Rattle.domain.specs.PairNothing.{pair_strict};
 ghost use Rattle.domain.specs.PairTracks.{pair_tracking};
@@ -52,6 +52,8 @@ impl<A: Domain, B: Domain> Product<A, B> {
 impl<A: Domain, B: Domain> Domain for Product<A, B> {
     const NONE_RANK: u64 = A::NONE_RANK.wrapping_add(B::NONE_RANK);
 
+    ghost NONE_RANK = { (A.Domain.NONE_RANK + B.Domain.NONE_RANK) % 2 ^ 64 };
+
     ghost lattice = { pair A.Domain.lattice B.Domain.lattice registers };
 
     ghost strict = { A.Domain.strict && B.Domain.strict };
@@ -60,6 +62,8 @@ impl<A: Domain, B: Domain> Domain for Product<A, B> {
 
     ghost tracks = { PairTracks A.Domain.lattice B.Domain.lattice A.Domain.tracks };
 
+    ghost ranked = { pair_ranked registers A.Domain.lattice B.Domain.lattice A.Domain.NONE_RANK B.Domain.NONE_RANK A.Domain.ranked B.Domain.ranked };
+
     ghost lawful = { pair_lawful registers A.Domain.lattice B.Domain.lattice A.Domain.lawful B.Domain.lawful };
 
     ghost nothing = { λ h.
@@ -67,10 +71,6 @@ impl<A: Domain, B: Domain> Domain for Product<A, B> {
         pair_strict registers A.Domain.lattice B.Domain.lattice (A.Domain.nothing k.0) (B.Domain.nothing k.1) };
 
     ghost tracking = { λ h. pair_tracking registers A.Domain.lattice B.Domain.lattice A.Domain.lawful B.Domain.lawful A.Domain.tracks (A.Domain.tracking h) };
-
-    fn rank_of_none() -> u64 {
-        A::rank_of_none().wrapping_add(B::rank_of_none())
-    }
 
     fn any() -> Self {
         Product {

@@ -1,6 +1,6 @@
 // It tells nothing but that there is no environment, and its answers go to and fro: narrowing a state twice by the same range
 // gives the state back, and one state is not within another of the same meaning.
-ghost use Rattle.std.specs.Prelude.{◌≡◌, false};
+ghost use Rattle.std.specs.Prelude.{◌≡◌, false, refl};
 ghost use Rattle.fickle.specs.Fickle.{fickle, whole_or_empty, never};
 ghost use Rattle.model.specs.Environments.{registers};
 ghost use Rattle.fickle.specs.FickleLaws.{fickle_lawful, not_claimed};
@@ -31,6 +31,8 @@ fn whole_or_empty(range: Range) -> Range
 impl Domain for Fickle {
     const NONE_RANK: u64 = 2;
 
+    ghost NONE_RANK = { 2 };
+
     ghost lattice = { fickle };
 
     ghost strict = { false };
@@ -39,15 +41,13 @@ impl Domain for Fickle {
 
     ghost tracks = { never };
 
+    ghost ranked = { refl };
+
     ghost lawful = { fickle_lawful registers };
 
     ghost nothing = { λ h. not_claimed h };
 
     ghost tracking = { λ h. not_claimed h };
-
-    fn rank_of_none() -> u64 {
-        Self::NONE_RANK
-    }
 
     fn any() -> Self {
         Fickle::Fresh

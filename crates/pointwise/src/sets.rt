@@ -2,12 +2,13 @@
 ghost use Rattle.std.specs.Prelude.{◌≡◌, ◌<◌};
 ghost use Rattle.model.specs.Environments.{registers};
 ghost use Rattle.pointwise.specs.States.{of, term, value, sure_value, bounded, changed};
-ghost use Rattle.pointwise.specs.Tables.{build, every};
+ghost use Rattle.pointwise.specs.Tables.{build, every, Computes};
 
 use model::expression::{Expression, Term};
 use model::register::{REGISTERS, axis_register, register_of};
 use model::side::Side;
 use number_sets::sets::NumberSet;
+use std::array;
 
 pub(crate) fn changed<V: NumberSet>(
     sets: &[V; REGISTERS],
@@ -59,33 +60,26 @@ pub(crate) fn bounded<V: NumberSet>(sets: &[V; REGISTERS], side: Side) -> bool
     v.bounds(side.a, side.b, w, side.c)
 }
 
-pub(crate) fn hulls<V: NumberSet>(left: &[V; REGISTERS], right: &[V; REGISTERS]) -> [V; REGISTERS]
-    ensures { result ≡ build registers (λ k. V.NumberSet.sets.hull (of V.NumberSet.sets left.now k) (of V.NumberSet.sets right.now k)) }
+// What an operation gives of two tables, register by register.
+pub(crate) fn pairwise<V: NumberSet, F: Fn(V, V) -> V>(
+    left: &[V; REGISTERS],
+    right: &[V; REGISTERS],
+    f: F,
+) -> [V; REGISTERS]
+    requires { F.IsAlwaysCallable f }
+    ensures { (g : V → V → V) → Computes (F.post f) g → result ≡ build registers (λ k. g (of V.NumberSet.sets left.now k) (of V.NumberSet.sets right.now k)) }
 {
-    let mut both = [V::whole(); REGISTERS];
-    for k in 0..REGISTERS {
-        both[k] = left[k].hull(right[k]);
-    }
-    both
-}
-
-pub(crate) fn widened<V: NumberSet>(old: &[V; REGISTERS], new: &[V; REGISTERS]) -> [V; REGISTERS]
-    ensures { result ≡ build registers (λ k. V.NumberSet.sets.widen (of V.NumberSet.sets old.now k) (of V.NumberSet.sets new.now k)) }
-{
-    let mut both = [V::whole(); REGISTERS];
-    for k in 0..REGISTERS {
-        both[k] = old[k].widen(new[k]);
-    }
-    both
+    array::from_fn(
+        |k|
+            requires within { k < registers }
+            requires callable { F.IsAlwaysCallable f }
+            ensures { F.post f (of V.NumberSet.sets left.entry.now k) (of V.NumberSet.sets right.entry.now k) result }
+        { f(left[k], right[k]) },
+    )
 }
 
 pub(crate) fn all_inside<V: NumberSet>(inner: &[V; REGISTERS], outer: &[V; REGISTERS]) -> bool
     ensures { result ≡ every registers (λ k. V.NumberSet.sets.inside (of V.NumberSet.sets inner.now k) (of V.NumberSet.sets outer.now k)) }
 {
-    for k in 0..REGISTERS {
-        if !inner[k].inside(outer[k]) {
-            return false;
-        }
-    }
-    true
+    inner.iter().zip(outer).all(|(x, y)| x.inside(*y))
 }
