@@ -5,9 +5,10 @@ ghost use Rattle.fickle.specs.Fickle.{fickle, whole_or_empty, never};
 ghost use Rattle.model.specs.Environments.{registers};
 ghost use Rattle.fickle.specs.FickleLaws.{fickle_lawful, not_claimed};
 
-use domain::domain::Domain;
+use domain::domain::{Domain, EMPTY};
 use model::expression::{Condition, Expression};
 use model::range::Range;
+use model::register::Register;
 use model::side::Side;
 
 // Fresh and stale both mean every environment.
@@ -21,11 +22,7 @@ pub enum Fickle {
 fn whole_or_empty(range: Range) -> Range
     ensures { result ≡ whole_or_empty range }
 {
-    if range.lo <= range.hi {
-        range
-    } else {
-        Range { lo: 1, hi: 0 }
-    }
+    if range.lo <= range.hi { range } else { EMPTY }
 }
 
 impl Domain for Fickle {
@@ -57,7 +54,7 @@ impl Domain for Fickle {
         Fickle::None
     }
 
-    fn narrow(&self, _register: usize, _range: Range) -> Self {
+    fn narrow(&self, _register: Register, _range: Range) -> Self {
         match self {
             Fickle::None => Fickle::None,
             Fickle::Fresh => Fickle::Stale,
@@ -69,7 +66,7 @@ impl Domain for Fickle {
         *self
     }
 
-    fn set(&self, _register: usize, _expression: Expression) -> Self {
+    fn set(&self, _register: Register, _expression: Expression) -> Self {
         match self {
             Fickle::None => Fickle::None,
             Fickle::Fresh | Fickle::Stale => Fickle::Fresh,
@@ -109,7 +106,7 @@ impl Domain for Fickle {
         false
     }
 
-    fn range(&self, _register: usize, range: Range) -> Range {
+    fn range(&self, _register: Register, range: Range) -> Range {
         whole_or_empty(range)
     }
 }

@@ -5,21 +5,21 @@ ghost use Rattle.pointwise.specs.States.{of, term, value, sure_value, bounded, c
 ghost use Rattle.pointwise.specs.Tables.{build, every, Computes};
 
 use model::expression::{Expression, Term};
-use model::register::{REGISTERS, axis_register, register_of};
+use model::register::{REGISTERS, Register};
 use model::side::Side;
 use number_sets::sets::NumberSet;
 use std::array;
 
+#[tactic(auto, using(crate::proofs::Loops::set_changed))]
 pub(crate) fn changed<V: NumberSet>(
     sets: &[V; REGISTERS],
-    register: usize,
+    register: Register,
     set: V,
 ) -> [V; REGISTERS]
-    requires { register < registers }
-    ensures { result ≡ changed V.NumberSet.sets registers sets.now register set }
+    ensures { result ≡ changed V.NumberSet.sets registers sets.now register.index set }
 {
     let mut after = *sets;
-    after[register] = set;
+    after[register.index] = set;
     after
 }
 
@@ -29,7 +29,7 @@ pub(crate) fn term<V: NumberSet>(sets: &[V; REGISTERS], t: Term) -> V
 {
     match t {
         Term::Number(n) => V::single(n),
-        Term::Parameter(p) => sets[register_of(p)],
+        Term::Parameter(p) => sets[Register::from(p).index],
     }
 }
 
@@ -55,8 +55,8 @@ pub(crate) fn sure_value<V: NumberSet>(sets: &[V; REGISTERS], expression: Expres
 pub(crate) fn bounded<V: NumberSet>(sets: &[V; REGISTERS], side: Side) -> bool
     ensures { result ≡ bounded V.NumberSet.sets sets.now side }
 {
-    let v = sets[axis_register(side.v)];
-    let w = sets[axis_register(side.w)];
+    let v = sets[Register::from(side.v).index];
+    let w = sets[Register::from(side.w).index];
     v.bounds(side.a, side.b, w, side.c)
 }
 

@@ -9,10 +9,10 @@ ghost use Rattle.pointwise.specs.StateNothing.{state_strict};
 ghost use Rattle.pointwise.specs.StateExact.{state_tracking};
 
 use crate::sets::{all_inside, bounded, changed, pairwise, sure_value, term, value};
-use domain::domain::Domain;
+use domain::domain::{Domain, EMPTY};
 use model::expression::{Condition, Expression, Term};
 use model::range::Range;
-use model::register::{REGISTERS, register_of};
+use model::register::{REGISTERS, Register};
 use model::side::Side;
 use number_sets::sets::{NumberSet, Pair};
 
@@ -24,11 +24,10 @@ pub struct Pointwise<V> {
 
 fn put<V: NumberSet>(
     sets: &[V; REGISTERS],
-    register: usize,
+    register: Register,
     set: Option<V>,
 ) -> Option<[V; REGISTERS]>
-    requires { register < registers }
-    ensures { result ≡ put V.NumberSet.sets registers sets.now register set }
+    ensures { result ≡ put V.NumberSet.sets registers sets.now register.index set }
 {
     Some(changed(sets, register, set?))
 }
@@ -36,12 +35,11 @@ fn put<V: NumberSet>(
 // What a condition leaves goes to its two registers; one register on both sides keeps what both leave it.
 fn kept_registers<V: NumberSet>(
     sets: &[V; REGISTERS],
-    left: usize,
-    right: usize,
+    left: Register,
+    right: Register,
     pair: Pair<V>,
 ) -> Option<[V; REGISTERS]>
-    requires { (left < registers) × (right < registers) }
-    ensures { result ≡ kept_registers V.NumberSet.sets registers sets.now left right pair }
+    ensures { result ≡ kept_registers V.NumberSet.sets registers sets.now left.index right.index pair }
 {
     if left == right {
         put(sets, left, pair.left.meet(pair.right))
@@ -62,10 +60,10 @@ fn kept_sides<V: NumberSet>(
 {
     match (left, right) {
         (Term::Number(_), Term::Number(_)) => Some(*sets),
-        (Term::Parameter(p), Term::Number(_)) => Some(changed(sets, register_of(p), pair.left)),
-        (Term::Number(_), Term::Parameter(q)) => Some(changed(sets, register_of(q), pair.right)),
+        (Term::Parameter(p), Term::Number(_)) => Some(changed(sets, Register::from(p), pair.left)),
+        (Term::Number(_), Term::Parameter(q)) => Some(changed(sets, Register::from(q), pair.right)),
         (Term::Parameter(p), Term::Parameter(q)) => {
-            kept_registers(sets, register_of(p), register_of(q), pair)
+            kept_registers(sets, Register::from(p), Register::from(q), pair)
         }
     }
 }
@@ -131,12 +129,12 @@ impl<V: NumberSet> Domain for Pointwise<V> {
         Pointwise { sets: None }
     }
 
-    fn narrow(&self, register: usize, range: Range) -> Self {
+    fn narrow(&self, register: Register, range: Range) -> Self {
         let Some(sets) = &self.sets else {
             return *self;
         };
         Pointwise {
-            sets: put(sets, register, sets[register].narrow(range)),
+            sets: put(sets, register, sets[register.index].narrow(range)),
         }
     }
 
@@ -149,7 +147,7 @@ impl<V: NumberSet> Domain for Pointwise<V> {
         }
     }
 
-    fn set(&self, register: usize, expression: Expression) -> Self {
+    fn set(&self, register: Register, expression: Expression) -> Self {
         let Some(sets) = &self.sets else {
             return *self;
         };
@@ -188,10 +186,10 @@ impl<V: NumberSet> Domain for Pointwise<V> {
         }
     }
 
-    fn range(&self, register: usize, range: Range) -> Range {
+    fn range(&self, register: Register, range: Range) -> Range {
         match &self.sets {
-            None => Range { lo: 1, hi: 0 },
-            Some(sets) => sets[register].range(range),
+            None => EMPTY,
+            Some(sets) => sets[register.index].range(range),
         }
     }
 }

@@ -1,7 +1,8 @@
 // A run: the line it stands at, and its registers.
 ghost use Rattle.std.specs.Prelude.{◌≡◌, ◌<◌, length, if◌then◌else◌, OnSome};
 ghost use Rattle.model.specs.Blocks.{block_of};
-ghost use Rattle.model.specs.Environments.{registers, position};
+ghost use Rattle.model.specs.Environments.{at, position};
+ghost use Rattle.model.specs.Sides.{axis_register};
 ghost use Rattle.model.specs.Programs.{Closed};
 ghost use Rattle.model.specs.Values.{holds};
 ghost use Rattle.program.specs.Held.{held};
@@ -11,8 +12,8 @@ ghost use Rattle.runner.specs.Steps.{worked, set_if, line_at, line_under, behind
 
 use crate::value::{meets, value};
 use model::expression::{Condition, Value};
-use model::line::Line;
-use model::register::{PARAMETERS, REGISTERS, register_of};
+use model::line::{Axis, Line};
+use model::register::{PARAMETERS, REGISTERS, Register};
 use model::side::Position;
 use program::table::Program;
 
@@ -111,14 +112,20 @@ impl Run {
         }
     }
 
+    fn along(&self, axis: Axis) -> i32
+        ensures { result ≡ at self.now.registers (axis_register axis) }
+    {
+        self.registers[Register::from(axis).index]
+    }
+
     fn position(&self) -> Position
         ensures { result ≡ position self.now.registers }
     {
         Position {
-            x: self.registers[0],
-            y: self.registers[1],
-            z: self.registers[2],
-            u: self.registers[3],
+            x: self.along(Axis::X),
+            y: self.along(Axis::Y),
+            z: self.along(Axis::Z),
+            u: self.along(Axis::U),
         }
     }
 
@@ -132,12 +139,11 @@ impl Run {
     }
 
     // Gives the axis its result, if there is one.
-    fn put(&mut self, r: usize, x: Option<i32>)
-        requires { r < registers }
-        ensures { self.new ≡ record { at = self.old.at; registers = set_if self.old.registers r x } }
+    fn put(&mut self, axis: Axis, x: Option<i32>)
+        ensures { self.new ≡ record { at = self.old.at; registers = set_if self.old.registers (axis_register axis) x } }
     {
         if let Some(x) = x {
-            self.registers[r] = x;
+            self.registers[Register::from(axis).index] = x;
         }
     }
 
@@ -151,10 +157,10 @@ impl Run {
     ) -> Stepped
         ensures { gone self.new result ≡ commanded n (set_if (set_if (set_if (set_if self.old.registers 0 x) 1 y) 2 z) 3 u) }
     {
-        self.put(0, x);
-        self.put(1, y);
-        self.put(2, z);
-        self.put(3, u);
+        self.put(Axis::X, x);
+        self.put(Axis::Y, y);
+        self.put(Axis::Z, z);
+        self.put(Axis::U, u);
         self.at = Some(n);
         Stepped::Commanded(self.position())
     }
@@ -193,7 +199,7 @@ impl Run {
             ) => match value(&self.registers, v) {
                 None => Stepped::Fault,
                 Some(x) => {
-                    self.registers[register_of(parameter)] = x;
+                    self.registers[Register::from(parameter).index] = x;
                     self.go(n + 1)
                 }
             },

@@ -4,14 +4,14 @@ ghost use Rattle.model.specs.Values.{term, evaluate, holds};
 ghost use Rattle.runner.specs.Steps.{fitting, value_of};
 
 use model::expression::{Condition, Expression, LIMIT, Op, Rel, Term, Value};
-use model::register::{REGISTERS, register_of};
+use model::register::{REGISTERS, Register};
 
 fn term(registers: &[i32; REGISTERS], t: Term) -> i32
     ensures { result ≡ term registers.now t }
 {
     match t {
         Term::Number(n) => n,
-        Term::Parameter(p) => registers[register_of(p)],
+        Term::Parameter(p) => registers[Register::from(p).index],
     }
 }
 
