@@ -1,4 +1,5 @@
-// The working store: one state for each block, by the block's number.
+// The working store: one state for each block, by the block's number. It is the slice that was lent, and goes beside a place as
+// it is: a type round both would be made anew for each line.
 ghost use Rattle.std.specs.Prelude.{◌≡◌, length, replicate, slice_index_or, slice_set};
 ghost use Rattle.program.specs.Held.{held};
 ghost use Rattle.sweep.specs.Blocks.{blocks};
@@ -70,6 +71,7 @@ pub(crate) fn come<D: Domain>(store: &mut [D], place: usize, pass: Pass<D>) -> P
 pub(crate) fn clear<D: Domain>(store: &mut [D])
     ensures { store.new ≡ replicate (length store.old) D.lattice.none }
 {
+    // fill would ask for clones that cannot fail, which a type parameter does not promise
     for state in store.iter_mut() {
         *state = D::none();
     }

@@ -7,7 +7,7 @@ use model::expression::{Op, Rel};
 use model::range::Range;
 use model::side::{Factor, Sign};
 
-// What a condition leaves of its two sides.
+// What a condition leaves of its two sides: a struct, for a tuple would not say which is which.
 #[derive(Clone, Copy)]
 pub struct Pair<V> {
     pub left: V,
