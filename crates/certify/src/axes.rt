@@ -1,45 +1,38 @@
 // The axes of a move, in register order, and the sides of the travel, in their order.
-ghost use Rattle.std.specs.Prelude.{◌≡◌, ◌<◌};
-ghost use Rattle.model.specs.Environments.{registers};
+ghost use Rattle.std.specs.Prelude.{◌≡◌, ◌<◌, None, slice_index_or};
+ghost use Rattle.model.specs.Environments.{axes, full};
 ghost use Rattle.model.specs.Sides.{lowest};
 ghost use Rattle.sweep.specs.Sweeps.{set_one, set_all, sure_one, all_sure, hull_with, hulls_with};
 
-use domain::domain::Domain;
-use model::expression::{LIMIT, Value};
+use domain::domain::{Domain, FULL};
+use model::expression::Value;
 use model::range::Range;
-use model::register::AXES;
+use model::register::{AXES, Register};
+use std::array;
 use travel::travel::Travel;
 
 // A value that is there does not fault.
 fn is_sure<D: Domain>(state: &D, value: Option<Value>) -> bool
     ensures { result ≡ sure_one D.lattice state.now value }
 {
-    match value {
-        None => true,
-        Some(v) => state.sure(v.expression),
-    }
+    value.is_none_or(|v| state.sure(v.expression))
 }
 
 // None of the values faults.
 pub(crate) fn all_sure<D: Domain>(state: &D, values: &[Option<Value>; AXES]) -> bool
     ensures { result ≡ all_sure D.lattice state.now values.now }
 {
-    for value in values {
-        if !is_sure(state, *value) {
-            return false;
-        }
-    }
-    true
+    values.iter().all(
+        |value|
+            ensures { result ≡ sure_one D.lattice state.entry.now value.now }
+        { is_sure(state, *value) },
+    )
 }
 
-fn with_value<D: Domain>(state: D, register: usize, value: Option<Value>) -> D
-    requires { register < registers }
-    ensures { result ≡ set_one D.lattice register value state }
+fn with_value<D: Domain>(state: D, register: Register, value: Option<Value>) -> D
+    ensures { result ≡ set_one D.lattice register.index value state }
 {
-    match value {
-        None => state,
-        Some(v) => state.set(register, v.expression),
-    }
+    value.map_or(state, |v| state.set(register, v.expression))
 }
 
 // The axes take those of the values that are there, in register order.
@@ -47,8 +40,8 @@ pub(crate) fn set_axes<D: Domain>(state: D, values: &[Option<Value>; AXES]) -> D
     ensures { result ≡ set_all D.lattice 0 values.now state }
 {
     let mut after = state;
-    for (register, value) in values.iter().enumerate() {
-        after = with_value(after, register, *value);
+    for (index, value) in values.iter().enumerate() {
+        after = with_value(after, Register { index }, *value);
     }
     after
 }
@@ -58,13 +51,9 @@ pub(crate) fn lowest_unshown<D: Domain, T: Travel>(state: &D, travel: &T) -> Opt
     ensures { result ≡ lowest (D.lattice.shows state.now) 0 (T.sides travel.now) }
 {
     for n in 0..travel.side_count() {
-        match travel.side(n) {
-            Some(side) => {
-                if !state.shows(side) {
-                    return Some(n);
-                }
-            }
-            None => return None,
+        let side = travel.side(n)?;
+        if !state.shows(side) {
+            return Some(n);
         }
     }
     None
@@ -77,13 +66,13 @@ fn hull_with(hull: Option<Range>, range: Range) -> Option<Range>
     if range.hi < range.lo {
         return hull;
     }
-    match hull {
-        None => Some(range),
-        Some(before) => Some(Range {
+    Some(hull.map_or(
+        range,
+        |before| Range {
             lo: before.lo.min(range.lo),
             hi: before.hi.max(range.hi),
-        }),
-    }
+        },
+    ))
 }
 
 pub(crate) fn hulls_with<D: Domain>(
@@ -92,13 +81,10 @@ pub(crate) fn hulls_with<D: Domain>(
 ) -> [Option<Range>; AXES]
     ensures { result ≡ hulls_with D.lattice 0 state.now hulls }
 {
-    let full = Range {
-        lo: -LIMIT,
-        hi: LIMIT,
-    };
-    let mut after = hulls;
-    for axis in 0..AXES {
-        after[axis] = hull_with(hulls[axis], state.range(axis, full));
-    }
-    after
+    array::from_fn(
+        |index|
+            requires { index < axes }
+            ensures { result ≡ hull_with (slice_index_or hulls index None) (D.lattice.range state.entry.now index full) }
+        { hull_with(hulls[index], state.range(Register { index }, FULL)) },
+    )
 }

@@ -19,7 +19,7 @@ use model::register::{AXES, PARAMETERS};
 use program::table::Program;
 use travel::travel::Travel;
 
-// Once through all lines.
+// Once through all lines. What is only read goes beside what changes: two lent values for three functions are plainer than a type.
 fn sweep_once<D: Domain, T: Travel>(
     program: &Program,
     travel: &T,

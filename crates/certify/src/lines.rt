@@ -16,7 +16,7 @@ use model::ending::{Cause, Failure};
 use model::expression::{Condition, Parameter, Value};
 use model::line::Line;
 use model::opposite::opposite_of;
-use model::register::{AXES, register_of};
+use model::register::AXES;
 use program::table::Program;
 use travel::travel::Travel;
 
@@ -24,13 +24,7 @@ use travel::travel::Travel;
 fn first_failure(failing: Option<Failure>, line: usize, cause: Option<Cause>) -> Option<Failure>
     ensures { result ≡ first failing (failure line cause) }
 {
-    match failing {
-        Some(before) => Some(before),
-        None => match cause {
-            None => None,
-            Some(cause) => Some(Failure { line, cause }),
-        },
-    }
+    failing.or(cause.map(|cause| Failure { line, cause }))
 }
 
 // Only what meets the condition goes on.
@@ -63,7 +57,7 @@ fn set_parameter<D: Domain>(
         Some(Cause::Arithmetic)
     };
     Pass {
-        current: pass.current.set(register_of(parameter), value.expression),
+        current: pass.current.set(parameter.into(), value.expression),
         failing: first_failure(pass.failing, line, cause),
         ..pass
     }
@@ -81,10 +75,7 @@ fn cause_of_move<D: Domain, T: Travel>(
     if !all_sure(before, values) {
         return Some(Cause::Arithmetic);
     }
-    match lowest_unshown(after, travel) {
-        None => None,
-        Some(side) => Some(Cause::Travel(side)),
-    }
+    lowest_unshown(after, travel).map(Cause::Travel)
 }
 
 fn move_axes<D: Domain, T: Travel>(

@@ -1,4 +1,5 @@
-// The working store: one state for each block, by the block's number.
+// The working store: one state for each block, by the block's number. It is the slice that was lent, and goes beside a place as
+// it is: a type round both would be made anew for each line.
 ghost use Rattle.std.specs.Prelude.{◌≡◌, length, replicate, slice_index_or, slice_set};
 ghost use Rattle.program.specs.Held.{held};
 ghost use Rattle.sweep.specs.Blocks.{blocks};
@@ -20,34 +21,25 @@ const ALWAYS: Condition = Condition {
 pub(crate) fn place(program: &Program, label: u16) -> usize
     ensures { result ≡ (blocks (held program.now)).place label }
 {
-    match program.block_number(label) {
-        None => 0,
-        Some(n) => n,
-    }
+    program.block_number(label).unwrap_or(0)
 }
 
 pub(crate) fn condition_of(program: &Program, label: u16) -> Condition
     ensures { result ≡ (blocks (held program.now)).condition label }
 {
-    match program.block(label) {
-        None => ALWAYS,
-        Some(block) => block.condition,
-    }
+    program.block(label).map_or(ALWAYS, |block| block.condition)
 }
 
 pub(crate) fn stored<D: Domain>(store: &[D], place: usize) -> D
     ensures { result ≡ slice_index_or store.now place D.lattice.none }
 {
-    if place < store.len() {
-        store[place]
-    } else {
-        D::none()
-    }
+    store.get(place).copied().unwrap_or(D::none())
 }
 
 pub(crate) fn put<D: Domain>(store: &mut [D], place: usize, state: D)
     ensures { store.new ≡ slice_set store.old place state }
 {
+    // what a generic slice holds after a write through get_mut stays open in the proof
     if place < store.len() {
         store[place] = state;
     }
@@ -79,7 +71,8 @@ pub(crate) fn come<D: Domain>(store: &mut [D], place: usize, pass: Pass<D>) -> P
 pub(crate) fn clear<D: Domain>(store: &mut [D])
     ensures { store.new ≡ replicate (length store.old) D.lattice.none }
 {
-    for i in 0..store.len() {
-        store[i] = D::none();
+    // fill would ask for clones that cannot fail, which a type parameter does not promise
+    for state in store.iter_mut() {
+        *state = D::none();
     }
 }

@@ -1,4 +1,5 @@
 // Congruences as sets of numbers for one register.
+ghost use Rattle.std.specs.Prelude.{refl};
 ghost use Rattle.congruences.specs.Numbers.{congruences};
 ghost use Rattle.congruences.specs.Lawful;
 ghost use Rattle.congruences.specs.Exact;
@@ -10,7 +11,14 @@ use model::side::{Factor, Sign};
 use number_sets::sets::{NumberSet, Pair};
 
 impl NumberSet for Congruence {
+    // the modulus can fall 25 times, from 0 down to 1
+    const MOST_WIDENINGS: u32 = 25;
+
+    ghost MOST_WIDENINGS = { 25 };
+
     ghost sets = { congruences };
+
+    ghost widenings = { refl };
 
     ghost lawful = { Lawful.lawful };
 

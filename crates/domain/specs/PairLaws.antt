@@ -1,6 +1,7 @@
 -- A product's laws from its sides' alone, over any number n of registers.
-use Rattle.std.specs.Prelude.{◌≡◌, ℕ, zero, suc, ◌+◌, ◌<◌, ◌≤◌, false, ◌&&◌, ◌⊎◌, ◌≢◌}
-use Rattle.std.proofs.Common.{subst, inl, inr, arith}
+use Rattle.std.specs.Prelude.{◌≡◌, ℕ, zero, suc, ◌+◌, ◌%◌, ◌^◌, ◌<◌, ◌≤◌, false, ◌&&◌, ◌⊎◌, ◌≢◌}
+use Rattle.std.proofs.Common.{ap₂, ◌∙◌, subst, inl, inr, arith}
+use Rattle.std.proofs.Math.Nat.{mod-add-mod, add-mod-mod}
 use Rattle.std.proofs.lemmas.Int.{ints}
 use Rattle.std.proofs.lemmas.Bool.{and_parts, and_cases, or_cases}
 use Rattle.model.specs.declared.range.Range.{Range}
@@ -66,3 +67,9 @@ module _ (n : ℕ) {A B : Type 0} (a : Lattice A) (b : Lattice B) (p : Lawful n 
     widen_le = λ s t. let f = p.widen_le s.first t.first in let g = q.widen_le s.second t.second in omega arith;
     widen_lt = widen_falls;
   }
+
+-- the wrapping sum of the sides' ranks of none is the product's
+pub pair_ranked : (n : ℕ) {A B : Type 0} (a : Lattice A) (b : Lattice B) (x y : ℕ) → x ≡ a.rank a.none % 2 ^ 64 → y ≡ b.rank b.none % 2 ^ 64 →
+    (x + y) % 2 ^ 64 ≡ (pair a b n).rank (pair a b n).none % 2 ^ 64
+pair_ranked n a b x y h k =
+    ap₂ (λ (i j : ℕ). (i + j) % 2 ^ 64) h k ∙ (mod-add-mod (a.rank a.none) (2 ^ 64) (b.rank b.none % 2 ^ 64) ∙ add-mod-mod (a.rank a.none) (b.rank b.none) (2 ^ 64))

@@ -1,18 +1,30 @@
 // What every domain answers.
-ghost use Rattle.std.specs.Prelude.{◌≡◌, ◌%◌, ◌^◌, ◌<◌, Bool, true, Option};
+ghost use Rattle.std.specs.Prelude.{◌≡◌, ℕ, ◌%◌, ◌^◌, Bool, true, Option};
 ghost use Rattle.model.specs.Environments.{Env, registers};
 ghost use Rattle.domain.specs.Lattice.{Lattice, Lawful};
 ghost use Rattle.domain.specs.Nothing.{Strict};
 ghost use Rattle.domain.specs.Tracking.{Tracking};
 
-use model::expression::{Condition, Expression};
+use model::expression::{Condition, Expression, LIMIT};
 use model::range::Range;
+use model::register::Register;
 use model::side::Side;
+
+// Every number that a register may have.
+pub const FULL: Range = Range {
+    lo: -LIMIT,
+    hi: LIMIT,
+};
+
+// The range of no number.
+pub const EMPTY: Range = Range { lo: 1, hi: 0 };
 
 // A state means a set of environments; each operation is that of the lattice, and the laws tie them to the meaning.
 pub trait Domain: Copy {
-    // The rank of none modulo 2^64; `rank_of_none` answers it under its law.
+    // The rank of none modulo 2^64.
     const NONE_RANK: u64;
+
+    ghost NONE_RANK: { ℕ };
 
     ghost lattice: { Lattice Self };
 
@@ -24,25 +36,20 @@ pub trait Domain: Copy {
 
     ghost tracks: { Self → Option Env → Type 0 };
 
-    fn rank_of_none() -> u64
-        ensures { result ≡ lattice.rank lattice.none % 2 ^ 64 };
-
     fn any() -> Self
         ensures { result ≡ lattice.any };
 
     fn none() -> Self
         ensures { result ≡ lattice.none };
 
-    fn narrow(&self, register: usize, range: Range) -> Self
-        requires { register < registers }
-        ensures { result ≡ lattice.narrow self.now register range };
+    fn narrow(&self, register: Register, range: Range) -> Self
+        ensures { result ≡ lattice.narrow self.now register.index range };
 
     fn keep(&self, condition: Condition) -> Self
         ensures { result ≡ lattice.keep self.now condition };
 
-    fn set(&self, register: usize, expression: Expression) -> Self
-        requires { register < registers }
-        ensures { result ≡ lattice.set self.now register expression };
+    fn set(&self, register: Register, expression: Expression) -> Self
+        ensures { result ≡ lattice.set self.now register.index expression };
 
     fn join(&self, other: &Self) -> Self
         ensures { result ≡ lattice.join self.now other.now };
@@ -59,9 +66,10 @@ pub trait Domain: Copy {
     fn shows(&self, side: Side) -> bool
         ensures { result ≡ lattice.shows self.now side };
 
-    fn range(&self, register: usize, range: Range) -> Range
-        requires { register < registers }
-        ensures { result ≡ lattice.range self.now register range };
+    fn range(&self, register: Register, range: Range) -> Range
+        ensures { result ≡ lattice.range self.now register.index range };
+
+    ghost ranked: { NONE_RANK ≡ lattice.rank lattice.none % 2 ^ 64 };
 
     ghost lawful: { Lawful registers lattice };
 

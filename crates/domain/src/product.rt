@@ -1,16 +1,16 @@
 // Two domains side by side: a state means what both of its sides mean.
-ghost use Rattle.std.specs.Prelude.{◌≡◌, ◌<◌, ◌&&◌};
+ghost use Rattle.std.specs.Prelude.{◌≡◌, ◌+◌, ◌%◌, ◌^◌, ◌&&◌};
 ghost use Rattle.model.specs.Environments.{registers};
 ghost use Rattle.domain.specs.Pairs.{pair, PairTracks, reduce, reduce_at};
-ghost use Rattle.domain.specs.PairLaws.{pair_lawful};
+ghost use Rattle.domain.specs.PairLaws.{pair_lawful, pair_ranked};
 ghost use Rattle.std.proofs.lemmas.Bool.{and_parts};
 ghost use Rattle.domain.specs.PairNothing.{pair_strict};
 ghost use Rattle.domain.specs.PairTracks.{pair_tracking};
 
-use crate::domain::Domain;
-use model::expression::{Condition, Expression, LIMIT};
+use crate::domain::{Domain, FULL};
+use model::expression::{Condition, Expression};
 use model::range::Range;
-use model::register::REGISTERS;
+use model::register::{REGISTERS, Register};
 use model::side::Side;
 
 #[derive(Clone, Copy)]
@@ -20,15 +20,11 @@ pub struct Product<A, B> {
 }
 
 impl<A: Domain, B: Domain> Product<A, B> {
-    fn reduced_at(self, register: usize) -> Self
-        requires { register < registers }
-        ensures { result ≡ reduce_at A.Domain.lattice B.Domain.lattice register self }
+    #[tactic(auto, unfolding(crate::specs::Pairs::reduce_at))]
+    fn reduced_at(self, register: Register) -> Self
+        ensures { result ≡ reduce_at A.Domain.lattice B.Domain.lattice register.index self }
     {
-        let full = Range {
-            lo: -LIMIT,
-            hi: LIMIT,
-        };
-        let seen = self.first.range(register, full);
+        let seen = self.first.range(register, FULL);
         let common = self.second.range(register, seen);
         let outcome = self.first.range(register, common);
         Product {
@@ -38,12 +34,13 @@ impl<A: Domain, B: Domain> Product<A, B> {
     }
 
     // Each side learns, register by register, what the other knows.
+    #[tactic(auto, unfolding(crate::specs::Pairs::reduce))]
     fn reduced(self) -> Self
         ensures { result ≡ reduce A.Domain.lattice B.Domain.lattice registers self }
     {
         let mut state = self;
-        for register in 0..REGISTERS {
-            state = state.reduced_at(register);
+        for index in 0..REGISTERS {
+            state = state.reduced_at(Register { index });
         }
         state
     }
@@ -51,6 +48,8 @@ impl<A: Domain, B: Domain> Product<A, B> {
 
 impl<A: Domain, B: Domain> Domain for Product<A, B> {
     const NONE_RANK: u64 = A::NONE_RANK.wrapping_add(B::NONE_RANK);
+
+    ghost NONE_RANK = { (A.Domain.NONE_RANK + B.Domain.NONE_RANK) % 2 ^ 64 };
 
     ghost lattice = { pair A.Domain.lattice B.Domain.lattice registers };
 
@@ -60,6 +59,8 @@ impl<A: Domain, B: Domain> Domain for Product<A, B> {
 
     ghost tracks = { PairTracks A.Domain.lattice B.Domain.lattice A.Domain.tracks };
 
+    ghost ranked = { pair_ranked registers A.Domain.lattice B.Domain.lattice A.Domain.NONE_RANK B.Domain.NONE_RANK A.Domain.ranked B.Domain.ranked };
+
     ghost lawful = { pair_lawful registers A.Domain.lattice B.Domain.lattice A.Domain.lawful B.Domain.lawful };
 
     ghost nothing = { λ h.
@@ -67,10 +68,6 @@ impl<A: Domain, B: Domain> Domain for Product<A, B> {
         pair_strict registers A.Domain.lattice B.Domain.lattice (A.Domain.nothing k.0) (B.Domain.nothing k.1) };
 
     ghost tracking = { λ h. pair_tracking registers A.Domain.lattice B.Domain.lattice A.Domain.lawful B.Domain.lawful A.Domain.tracks (A.Domain.tracking h) };
-
-    fn rank_of_none() -> u64 {
-        A::rank_of_none().wrapping_add(B::rank_of_none())
-    }
 
     fn any() -> Self {
         Product {
@@ -86,7 +83,7 @@ impl<A: Domain, B: Domain> Domain for Product<A, B> {
         }
     }
 
-    fn narrow(&self, register: usize, range: Range) -> Self {
+    fn narrow(&self, register: Register, range: Range) -> Self {
         let both = Product {
             first: self.first.narrow(register, range),
             second: self.second.narrow(register, range),
@@ -102,7 +99,7 @@ impl<A: Domain, B: Domain> Domain for Product<A, B> {
         both.reduced()
     }
 
-    fn set(&self, register: usize, expression: Expression) -> Self {
+    fn set(&self, register: Register, expression: Expression) -> Self {
         let both = Product {
             first: self.first.set(register, expression),
             second: self.second.set(register, expression),
@@ -136,7 +133,7 @@ impl<A: Domain, B: Domain> Domain for Product<A, B> {
         self.first.shows(side) || self.second.shows(side)
     }
 
-    fn range(&self, register: usize, range: Range) -> Range {
+    fn range(&self, register: Register, range: Range) -> Range {
         let seen = self.first.range(register, range);
         self.second.range(register, seen)
     }

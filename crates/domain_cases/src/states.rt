@@ -1,13 +1,12 @@
 // What the same steps come to in each domain, in products, in a product of a product, and beside a domain that tells nothing.
-use domain::domain::Domain;
+use domain::domain::{Domain, EMPTY, FULL};
 use domain::product::Product;
 use fickle::fickle::Fickle;
 use model::expression::{Condition, Expression, LIMIT, Op, Parameter, Rel, Term};
 use model::line::Axis;
 use model::range::Range;
 use model::side::{Factor, Side, Sign};
-use pointwise::congruence_states::Congruences;
-use pointwise::interval_states::Intervals;
+use pointwise::kinds::{Congruences, Intervals};
 use std::process::Abort;
 
 type Both = Product<Intervals, Congruences>;
@@ -20,11 +19,6 @@ type Beside = Product<Both, Fickle>;
 
 type Behind = Product<Fickle, Both>;
 
-const FULL: Range = Range {
-    lo: -LIMIT,
-    hi: LIMIT,
-};
-
 const FIRST: Term = Term::Parameter(Parameter::P1);
 
 fn only(n: i32) -> Range {
@@ -35,28 +29,30 @@ fn check_range(rt: &impl Abort, found: Range, lo: i32, hi: i32) {
     assert!(rt; found.lo == lo && found.hi == hi);
 }
 
-// The constant and the function that stands under its law agree.
+// One above what all sets of a state can be widened together; a product's is the sum of its sides'.
 #[test]
 fn ranks_of_none(rt: HostRuntime) {
-    assert!(rt; Intervals::NONE_RANK == Intervals::rank_of_none());
-    assert!(rt; Congruences::NONE_RANK == Congruences::rank_of_none());
-    assert!(rt; Both::NONE_RANK == Both::rank_of_none());
-    assert!(rt; Turned::NONE_RANK == Turned::rank_of_none());
-    assert!(rt; Twice::NONE_RANK == Twice::rank_of_none());
-    assert!(rt; Beside::NONE_RANK == Beside::rank_of_none());
-    assert!(rt; Behind::NONE_RANK == Behind::rank_of_none());
+    assert!(rt; Intervals::NONE_RANK == 21);
+    assert!(rt; Congruences::NONE_RANK == 251);
+    assert!(rt; Both::NONE_RANK == 272);
+    assert!(rt; Turned::NONE_RANK == 272);
+    assert!(rt; Twice::NONE_RANK == 42);
+    assert!(rt; Beside::NONE_RANK == 274);
+    assert!(rt; Behind::NONE_RANK == 274);
 }
 
 // 4 joined with 10, kept above 4: what is left of #1.
 fn above_four<D: Domain>() -> Range {
-    let four = D::any().narrow(4, only(4));
-    let ten = D::any().narrow(4, only(10));
+    let four = D::any().narrow(Parameter::P1.into(), only(4));
+    let ten = D::any().narrow(Parameter::P1.into(), only(10));
     let condition = Condition {
         rel: Rel::Gt,
         left: FIRST,
         right: Term::Number(4),
     };
-    four.join(&ten).keep(condition).range(4, FULL)
+    four.join(&ten)
+        .keep(condition)
+        .range(Parameter::P1.into(), FULL)
 }
 
 #[test]
@@ -72,35 +68,35 @@ fn each_side_learns_from_the_other(rt: HostRuntime) {
 
 // X after #1 in 0..4 was widened by 1..5 and X is set to #1 times 500.
 fn widened_rows<D: Domain>() -> D {
-    let old = D::any().narrow(4, Range { lo: 0, hi: 4 });
-    let new = D::any().narrow(4, Range { lo: 1, hi: 5 });
+    let old = D::any().narrow(Parameter::P1.into(), Range { lo: 0, hi: 4 });
+    let new = D::any().narrow(Parameter::P1.into(), Range { lo: 1, hi: 5 });
     let row = Expression::Apply(Op::Mul, FIRST, Term::Number(500));
-    old.widen(&new).set(0, row)
+    old.widen(&new).set(Axis::X.into(), row)
 }
 
 #[test]
 fn a_product_is_cut_to_the_limit(rt: HostRuntime) {
     check_range(
         &rt,
-        widened_rows::<Intervals>().range(0, FULL),
+        widened_rows::<Intervals>().range(Axis::X.into(), FULL),
         0,
         10_000_000,
     );
     check_range(
         &rt,
-        widened_rows::<Congruences>().range(0, FULL),
+        widened_rows::<Congruences>().range(Axis::X.into(), FULL),
         -10_000_000,
         10_000_000,
     );
     check_range(
         &rt,
-        widened_rows::<Both>().range(0, Range { lo: 1, hi: 999 }),
+        widened_rows::<Both>().range(Axis::X.into(), Range { lo: 1, hi: 999 }),
         500,
         500,
     );
     check_range(
         &rt,
-        widened_rows::<Behind>().range(0, Range { lo: 1, hi: 499 }),
+        widened_rows::<Behind>().range(Axis::X.into(), Range { lo: 1, hi: 499 }),
         1,
         0,
     );
@@ -110,7 +106,7 @@ fn is_sure<D: Domain>() -> bool {
     let next = Expression::Apply(Op::Add, FIRST, Term::Number(1));
     D::any()
         .narrow(
-            4,
+            Parameter::P1.into(),
             Range {
                 lo: 0,
                 hi: LIMIT - 1,
@@ -128,7 +124,9 @@ fn shows_nine<D: Domain>() -> bool {
         w: Axis::Y,
         c: 9,
     };
-    D::any().narrow(0, Range { lo: 0, hi: 9 }).shows(side)
+    D::any()
+        .narrow(Axis::X.into(), Range { lo: 0, hi: 9 })
+        .shows(side)
 }
 
 #[test]
@@ -146,9 +144,9 @@ fn compared_with_itself<D: Domain>(rel: Rel) -> Range {
         right: FIRST,
     };
     D::any()
-        .narrow(4, Range { lo: 0, hi: 9 })
+        .narrow(Parameter::P1.into(), Range { lo: 0, hi: 9 })
         .keep(condition)
-        .range(4, FULL)
+        .range(Parameter::P1.into(), FULL)
 }
 
 // Both cuts are made from what the register was.
@@ -166,13 +164,24 @@ fn a_register_on_both_sides(rt: HostRuntime) {
 
 #[test]
 fn narrowing_to_an_empty_range_leaves_none(rt: HostRuntime) {
-    let empty = Range { lo: 1, hi: 0 };
-    assert!(rt; Intervals::any().narrow(3, empty).within(&Intervals::none()));
+    assert!(rt;
+        Intervals::any()
+            .narrow(Axis::U.into(), EMPTY)
+            .within(&Intervals::none())
+    );
     assert!(rt;
         Congruences::any()
-            .narrow(3, empty)
+            .narrow(Axis::U.into(), EMPTY)
             .within(&Congruences::none())
     );
-    assert!(rt; Both::any().narrow(3, empty).within(&Both::none()));
-    assert!(rt; !Behind::any().narrow(3, empty).within(&Behind::none()));
+    assert!(rt;
+        Both::any()
+            .narrow(Axis::U.into(), EMPTY)
+            .within(&Both::none())
+    );
+    assert!(rt;
+        !Behind::any()
+            .narrow(Axis::U.into(), EMPTY)
+            .within(&Behind::none())
+    );
 }

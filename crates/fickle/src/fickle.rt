@@ -1,13 +1,14 @@
 // It tells nothing but that there is no environment, and its answers go to and fro: narrowing a state twice by the same range
 // gives the state back, and one state is not within another of the same meaning.
-ghost use Rattle.std.specs.Prelude.{◌≡◌, false};
+ghost use Rattle.std.specs.Prelude.{◌≡◌, false, refl};
 ghost use Rattle.fickle.specs.Fickle.{fickle, whole_or_empty, never};
 ghost use Rattle.model.specs.Environments.{registers};
 ghost use Rattle.fickle.specs.FickleLaws.{fickle_lawful, not_claimed};
 
-use domain::domain::Domain;
+use domain::domain::{Domain, EMPTY};
 use model::expression::{Condition, Expression};
 use model::range::Range;
+use model::register::Register;
 use model::side::Side;
 
 // Fresh and stale both mean every environment.
@@ -21,15 +22,13 @@ pub enum Fickle {
 fn whole_or_empty(range: Range) -> Range
     ensures { result ≡ whole_or_empty range }
 {
-    if range.lo <= range.hi {
-        range
-    } else {
-        Range { lo: 1, hi: 0 }
-    }
+    if range.lo <= range.hi { range } else { EMPTY }
 }
 
 impl Domain for Fickle {
     const NONE_RANK: u64 = 2;
+
+    ghost NONE_RANK = { 2 };
 
     ghost lattice = { fickle };
 
@@ -39,15 +38,13 @@ impl Domain for Fickle {
 
     ghost tracks = { never };
 
+    ghost ranked = { refl };
+
     ghost lawful = { fickle_lawful registers };
 
     ghost nothing = { λ h. not_claimed h };
 
     ghost tracking = { λ h. not_claimed h };
-
-    fn rank_of_none() -> u64 {
-        Self::NONE_RANK
-    }
 
     fn any() -> Self {
         Fickle::Fresh
@@ -57,7 +54,7 @@ impl Domain for Fickle {
         Fickle::None
     }
 
-    fn narrow(&self, _register: usize, _range: Range) -> Self {
+    fn narrow(&self, _register: Register, _range: Range) -> Self {
         match self {
             Fickle::None => Fickle::None,
             Fickle::Fresh => Fickle::Stale,
@@ -69,7 +66,7 @@ impl Domain for Fickle {
         *self
     }
 
-    fn set(&self, _register: usize, _expression: Expression) -> Self {
+    fn set(&self, _register: Register, _expression: Expression) -> Self {
         match self {
             Fickle::None => Fickle::None,
             Fickle::Fresh | Fickle::Stale => Fickle::Fresh,
@@ -109,7 +106,7 @@ impl Domain for Fickle {
         false
     }
 
-    fn range(&self, _register: usize, range: Range) -> Range {
+    fn range(&self, _register: Register, range: Range) -> Range {
         whole_or_empty(range)
     }
 }

@@ -13,30 +13,39 @@ pub const PARAMETERS: usize = 6;
 
 pub const REGISTERS: usize = 10;
 
-// The register of a parameter.
-pub fn register_of(parameter: Parameter) -> usize
-    ensures is { result ≡ register parameter }
-    ensures within { result < registers }
-{
-    match parameter {
-        Parameter::P1 => 4,
-        Parameter::P2 => 5,
-        Parameter::P3 => 6,
-        Parameter::P4 => 7,
-        Parameter::P5 => 8,
-        Parameter::P6 => 9,
+// One of the registers, by its number from 0.
+#[derive(Clone, Copy, PartialEq, Eq)]
+pub struct Register {
+    pub index: usize,
+    ghost known: { index < registers },
+}
+
+impl From<Parameter> for Register {
+    ghost from_gives = { λ parameter result. result.index ≡ register parameter };
+
+    fn from(parameter: Parameter) -> Register {
+        let index = match parameter {
+            Parameter::P1 => 4,
+            Parameter::P2 => 5,
+            Parameter::P3 => 6,
+            Parameter::P4 => 7,
+            Parameter::P5 => 8,
+            Parameter::P6 => 9,
+        };
+        Register { index }
     }
 }
 
-// The register of an axis.
-pub fn axis_register(axis: Axis) -> usize
-    ensures is { result ≡ axis_register axis }
-    ensures within { result < registers }
-{
-    match axis {
-        Axis::X => 0,
-        Axis::Y => 1,
-        Axis::Z => 2,
-        Axis::U => 3,
+impl From<Axis> for Register {
+    ghost from_gives = { λ axis result. result.index ≡ axis_register axis };
+
+    fn from(axis: Axis) -> Register {
+        let index = match axis {
+            Axis::X => 0,
+            Axis::Y => 1,
+            Axis::Z => 2,
+            Axis::U => 3,
+        };
+        Register { index }
     }
 }

@@ -1,5 +1,5 @@
 // What a set of numbers for one register answers.
-ghost use Rattle.std.specs.Prelude.{◌≡◌};
+ghost use Rattle.std.specs.Prelude.{◌≡◌, ℕ};
 ghost use Rattle.number_sets.specs.Exact.{ExactSets};
 ghost use Rattle.number_sets.specs.Sets.{NumberSets, LawfulSets};
 
@@ -7,7 +7,7 @@ use model::expression::{Op, Rel};
 use model::range::Range;
 use model::side::{Factor, Sign};
 
-// What a condition leaves of its two sides.
+// What a condition leaves of its two sides: a struct, for a tuple would not say which is which.
 #[derive(Clone, Copy)]
 pub struct Pair<V> {
     pub left: V,
@@ -16,6 +16,11 @@ pub struct Pair<V> {
 
 // A set that is not empty; where an operation leaves nothing, it answers none.
 pub trait NumberSet: Copy {
+    // How often a set can be widened at most.
+    const MOST_WIDENINGS: u32;
+
+    ghost MOST_WIDENINGS: { ℕ };
+
     ghost sets: { NumberSets Self };
 
     fn whole() -> Self
@@ -54,6 +59,8 @@ pub trait NumberSet: Copy {
 
     fn range(self, range: Range) -> Range
         ensures { result ≡ sets.range self range };
+
+    ghost widenings: { MOST_WIDENINGS ≡ sets.most };
 
     ghost lawful: { LawfulSets sets };
 

@@ -1,29 +1,38 @@
 -- The steps of the loops that go over all registers, and one register written.
-use Rattle.std.proofs.Common.{◌≡◌, ℕ, ◌+◌, ◌<◌, ◌≤◌, Bool, true, false, cond, eqb, ◌≢◌, List, length, get_or, take, set, sym, refl, ap, ◌∙◌, ap₂, add-one, arith, length-set, take_all, get_or-set_other, get_or-set_same, take-suc-set}
+use Rattle.std.proofs.Common.{zero, suc, subst, ◌≡◌, ℕ, ◌<◌, Bool, true, false, cond, eqb, ◌≢◌, List, length, get_or, set, sym, refl, ap, ◌∙◌, arith, length-set, get_or-set_other, get_or-set_same}
 use Rattle.std.proofs.lemmas.List.{same_lists, get_or_default}
-use Rattle.std.proofs.lemmas.Bool.{eqb-true, eqb-false}
+use Rattle.std.proofs.lemmas.Bool.{eqb-true, eqb-false, and_from}
+use Rattle.std.proofs.lemmas.Slice.Zip.{length-zip, get_or-zip}
+use Rattle.std.specs.Bool.{MatchBool}
+use Rattle.std.specs.List.{zip, AllWithin, HoldsAt}
 use Rattle.number_sets.specs.Sets.{NumberSets}
 use Rattle.pointwise.specs.States.{of, changed}
 use Rattle.pointwise.specs.Tables.{build, every}
-use Rattle.pointwise.specs.Built.{length_build, at_build}
+use Rattle.pointwise.specs.Built.{length_build, at_build, every_not}
 
-pub build_more : {A : Type 0} (f : ℕ → A) (xs : List A) (i : ℕ) (v : A) → take i xs ≡ build i f → i < length xs → v ≡ f i → take (i + 1) (set xs i v) ≡ build (i + 1) f
-unfolding build
-build_more f xs i v e h q = let s = take-suc-set xs i v h in rw (add-one, s, e, q)
+-- a table of n entries that a function gives
+pub build_same : {A : Type 0} (f : ℕ → A) (xs : List A) (n : ℕ) → length xs ≡ n → ((k : ℕ) (d : A) → k < n → get_or xs k d ≡ f k) → xs ≡ build n f
+build_same f xs n l h =
+    let b = length_build n f in
+    same_lists xs (build n f) (l ∙ sym b) (λ k d q. let i : k < n = omega arith in h k d i ∙ sym (at_build n f k d i))
 
-pub build_done : {A : Type 0} (f : ℕ → A) (xs : List A) (i n : ℕ) → take i xs ≡ build i f → length xs ≡ n → n ≤ i → i ≤ n → xs ≡ build n f
-build_done f xs i n e h p q =
-    let t : length xs ≤ i = omega arith in
-    let same : i ≡ n = omega arith in
-    sym (take_all i xs t) ∙ (e ∙ ap (λ k. build k f) same)
-
-pub every_more : (p : ℕ → Bool) (i : ℕ) → every i p ≡ true → p i ≡ true → every (i + 1) p ≡ true
+pub every_all : (n : ℕ) (p : ℕ → Bool) → ((k : ℕ) → k < n → p k ≡ true) → every n p ≡ true
 unfolding every
-every_more p i e h = rw (add-one, e, h)
+every_all zero p h = refl
+every_all (suc n) p h = and_from _ _ (every_all n p (λ k i. h k (omega arith))) (h n (omega arith))
 
--- what two elements give, at whatever default they are read
-pub read_two : {A B : Type 0} (f : A → A → B) (xs ys : List A) (k : ℕ) (x y d : A) → k < length xs → k < length ys → f (get_or xs k x) (get_or ys k y) ≡ f (get_or xs k d) (get_or ys k d)
-read_two f xs ys k x y d h g = ap₂ f (get_or_default xs k x d h) (get_or_default ys k y d g)
+-- a test of the pairs of two tables of n entries
+pub every_pair : {V : Type 0} (test : V → V → Bool) (xs ys : List V) (n : ℕ) (d : V) (r : Bool) → length xs ≡ n → length ys ≡ n →
+    MatchBool r (AllWithin (λ q. test q.0 q.1 ≡ true) (zip xs ys) 0 (length (zip xs ys))) ((k : ℕ) × (k < length (zip xs ys)) × HoldsAt (λ q. test q.0 q.1 ≡ false) (zip xs ys) k) →
+    r ≡ every n (λ k. test (get_or xs k d) (get_or ys k d))
+every_pair test xs ys n d true l m h =
+    let z = length-zip xs ys in
+    sym (every_all n _ (λ k i. let e = get_or-zip xs ys k (d, d) (omega arith) (omega arith) in subst (λ q. test q.0 q.1 ≡ true) e (h k (d, d) (omega arith) (omega arith))))
+every_pair test xs ys n d false l m h =
+    let z = length-zip xs ys in
+    let i : h.0 < n = omega (arith, h.1) in
+    let e = get_or-zip xs ys h.0 (d, d) (omega arith) (omega arith) in
+    sym (every_not _ n h.0 i (subst (λ q. test q.0 q.1 ≡ false) e (h.2 (d, d))))
 
 module _ {V : Type 0} (a : NumberSets V) where
   written_at : (xs : List V) (r k : ℕ) (x d : V) (b : Bool) → eqb k r ≡ b → r < length xs → k < length xs → get_or (set xs r x) k d ≡ cond b x (of a xs k)
@@ -34,6 +43,4 @@ module _ {V : Type 0} (a : NumberSets V) where
   pub set_changed : (n : ℕ) (xs : List V) (r : ℕ) (x : V) → length xs ≡ n → r < n → set xs r x ≡ changed a n xs r x
   set_changed n xs r x l h =
       let s = length-set xs r x in
-      let b = length_build n (λ k. cond (eqb k r) x (of a xs k)) in
-      same_lists (set xs r x) (changed a n xs r x) (s ∙ (l ∙ sym b))
-      (λ k d q. let i : k < n = omega arith in written_at xs r k x d (eqb k r) refl (omega arith) (omega arith) ∙ sym (at_build n (λ j. cond (eqb j r) x (of a xs j)) k d i))
+      build_same (λ k. cond (eqb k r) x (of a xs k)) (set xs r x) n (s ∙ l) (λ k d i. written_at xs r k x d (eqb k r) refl (omega arith) (omega arith))

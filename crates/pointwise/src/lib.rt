@@ -2,8 +2,7 @@
 
 #![tactic(auto)]
 
-pub mod congruence_states;
-pub mod interval_states;
+pub mod kinds;
 pub mod laws;
 pub mod sets;
 pub mod state;

@@ -2,23 +2,24 @@
 ghost use Rattle.std.specs.Prelude.{◌≡◌, ◌<◌};
 ghost use Rattle.model.specs.Environments.{registers};
 ghost use Rattle.pointwise.specs.States.{of, term, value, sure_value, bounded, changed};
-ghost use Rattle.pointwise.specs.Tables.{build, every};
+ghost use Rattle.pointwise.specs.Tables.{build, every, Computes};
 
 use model::expression::{Expression, Term};
-use model::register::{REGISTERS, axis_register, register_of};
+use model::register::{REGISTERS, Register};
 use model::side::Side;
 use number_sets::sets::NumberSet;
+use std::array;
 
+#[tactic(auto, using(crate::proofs::Loops::set_changed))]
 pub(crate) fn changed<V: NumberSet>(
     sets: &[V; REGISTERS],
-    register: usize,
+    register: Register,
     set: V,
 ) -> [V; REGISTERS]
-    requires { register < registers }
-    ensures { result ≡ changed V.NumberSet.sets registers sets.now register set }
+    ensures { result ≡ changed V.NumberSet.sets registers sets.now register.index set }
 {
     let mut after = *sets;
-    after[register] = set;
+    after[register.index] = set;
     after
 }
 
@@ -28,7 +29,7 @@ pub(crate) fn term<V: NumberSet>(sets: &[V; REGISTERS], t: Term) -> V
 {
     match t {
         Term::Number(n) => V::single(n),
-        Term::Parameter(p) => sets[register_of(p)],
+        Term::Parameter(p) => sets[Register::from(p).index],
     }
 }
 
@@ -54,38 +55,31 @@ pub(crate) fn sure_value<V: NumberSet>(sets: &[V; REGISTERS], expression: Expres
 pub(crate) fn bounded<V: NumberSet>(sets: &[V; REGISTERS], side: Side) -> bool
     ensures { result ≡ bounded V.NumberSet.sets sets.now side }
 {
-    let v = sets[axis_register(side.v)];
-    let w = sets[axis_register(side.w)];
+    let v = sets[Register::from(side.v).index];
+    let w = sets[Register::from(side.w).index];
     v.bounds(side.a, side.b, w, side.c)
 }
 
-pub(crate) fn hulls<V: NumberSet>(left: &[V; REGISTERS], right: &[V; REGISTERS]) -> [V; REGISTERS]
-    ensures { result ≡ build registers (λ k. V.NumberSet.sets.hull (of V.NumberSet.sets left.now k) (of V.NumberSet.sets right.now k)) }
+// What an operation gives of two tables, register by register.
+pub(crate) fn pairwise<V: NumberSet, F: Fn(V, V) -> V>(
+    left: &[V; REGISTERS],
+    right: &[V; REGISTERS],
+    f: F,
+) -> [V; REGISTERS]
+    requires { F.IsAlwaysCallable f }
+    ensures { (g : V → V → V) → Computes (F.post f) g → result ≡ build registers (λ k. g (of V.NumberSet.sets left.now k) (of V.NumberSet.sets right.now k)) }
 {
-    let mut both = [V::whole(); REGISTERS];
-    for k in 0..REGISTERS {
-        both[k] = left[k].hull(right[k]);
-    }
-    both
-}
-
-pub(crate) fn widened<V: NumberSet>(old: &[V; REGISTERS], new: &[V; REGISTERS]) -> [V; REGISTERS]
-    ensures { result ≡ build registers (λ k. V.NumberSet.sets.widen (of V.NumberSet.sets old.now k) (of V.NumberSet.sets new.now k)) }
-{
-    let mut both = [V::whole(); REGISTERS];
-    for k in 0..REGISTERS {
-        both[k] = old[k].widen(new[k]);
-    }
-    both
+    array::from_fn(
+        |k|
+            requires within { k < registers }
+            requires callable { F.IsAlwaysCallable f }
+            ensures { F.post f (of V.NumberSet.sets left.entry.now k) (of V.NumberSet.sets right.entry.now k) result }
+        { f(left[k], right[k]) },
+    )
 }
 
 pub(crate) fn all_inside<V: NumberSet>(inner: &[V; REGISTERS], outer: &[V; REGISTERS]) -> bool
     ensures { result ≡ every registers (λ k. V.NumberSet.sets.inside (of V.NumberSet.sets inner.now k) (of V.NumberSet.sets outer.now k)) }
 {
-    for k in 0..REGISTERS {
-        if !inner[k].inside(outer[k]) {
-            return false;
-        }
-    }
-    true
+    inner.iter().zip(outer).all(|(x, y)| x.inside(*y))
 }

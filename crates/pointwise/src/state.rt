@@ -1,48 +1,51 @@
 // States that hold one set of numbers for each register.
-ghost use Rattle.std.specs.Prelude.{◌≡◌, ◌<◌};
+ghost use Rattle.std.specs.Prelude.{◌≡◌, ◌+◌, ◌*◌, ◌%◌, ◌^◌, ◌<◌, true, Some};
 ghost use Rattle.model.specs.Environments.{registers};
-ghost use Rattle.pointwise.specs.States.{put, kept_registers, kept_sides};
-ghost use Rattle.pointwise.specs.States.{any, narrow, keep, set, join, widen, within, sure, shows, range_of};
+ghost use Rattle.pointwise.specs.States.{put, kept_registers, kept_sides, keep, merged, pointwise};
+ghost use Rattle.pointwise.specs.Tables.{Computes};
+ghost use Rattle.pointwise.specs.Tracks.{tracks};
+ghost use Rattle.pointwise.specs.StateLaws.{state_lawful, registers_named, none_ranked};
+ghost use Rattle.pointwise.specs.StateNothing.{state_strict};
+ghost use Rattle.pointwise.specs.StateExact.{state_tracking};
 
-use crate::sets::{all_inside, bounded, changed, hulls, sure_value, term, value, widened};
+use crate::sets::{all_inside, bounded, changed, pairwise, sure_value, term, value};
+use domain::domain::{Domain, EMPTY};
 use model::expression::{Condition, Expression, Term};
 use model::range::Range;
-use model::register::{REGISTERS, register_of};
+use model::register::{REGISTERS, Register};
 use model::side::Side;
 use number_sets::sets::{NumberSet, Pair};
 
 // A set for each register, or no environment at all.
 #[derive(Clone, Copy)]
-pub enum Pointwise<V> {
-    None,
-    Each([V; REGISTERS]),
+pub struct Pointwise<V> {
+    pub sets: Option<[V; REGISTERS]>,
 }
 
-fn put<V: NumberSet>(sets: &[V; REGISTERS], register: usize, set: Option<V>) -> Pointwise<V>
-    requires { register < registers }
-    ensures { result ≡ put V.NumberSet.sets registers sets.now register set }
+fn put<V: NumberSet>(
+    sets: &[V; REGISTERS],
+    register: Register,
+    set: Option<V>,
+) -> Option<[V; REGISTERS]>
+    ensures { result ≡ put V.NumberSet.sets registers sets.now register.index set }
 {
-    match set {
-        Some(x) => Pointwise::Each(changed(sets, register, x)),
-        None => Pointwise::None,
-    }
+    Some(changed(sets, register, set?))
 }
 
 // What a condition leaves goes to its two registers; one register on both sides keeps what both leave it.
 fn kept_registers<V: NumberSet>(
     sets: &[V; REGISTERS],
-    left: usize,
-    right: usize,
+    left: Register,
+    right: Register,
     pair: Pair<V>,
-) -> Pointwise<V>
-    requires { (left < registers) × (right < registers) }
-    ensures { result ≡ kept_registers V.NumberSet.sets registers sets.now left right pair }
+) -> Option<[V; REGISTERS]>
+    ensures { result ≡ kept_registers V.NumberSet.sets registers sets.now left.index right.index pair }
 {
     if left == right {
         put(sets, left, pair.left.meet(pair.right))
     } else {
         let cut = changed(sets, left, pair.left);
-        Pointwise::Each(changed(&cut, right, pair.right))
+        Some(changed(&cut, right, pair.right))
     }
 }
 
@@ -51,124 +54,142 @@ fn kept_sides<V: NumberSet>(
     sets: &[V; REGISTERS],
     left: Term,
     right: Term,
-    kept: Option<Pair<V>>,
-) -> Pointwise<V>
-    ensures { result ≡ kept_sides V.NumberSet.sets registers sets.now left right kept }
+    pair: Pair<V>,
+) -> Option<[V; REGISTERS]>
+    ensures { result ≡ kept_sides V.NumberSet.sets registers sets.now left right (Some pair) }
 {
-    let Some(pair) = kept else {
-        return Pointwise::None;
-    };
     match (left, right) {
-        (Term::Number(_), Term::Number(_)) => Pointwise::Each(*sets),
-        (Term::Parameter(p), Term::Number(_)) => {
-            Pointwise::Each(changed(sets, register_of(p), pair.left))
-        }
-        (Term::Number(_), Term::Parameter(q)) => {
-            Pointwise::Each(changed(sets, register_of(q), pair.right))
-        }
+        (Term::Number(_), Term::Number(_)) => Some(*sets),
+        (Term::Parameter(p), Term::Number(_)) => Some(changed(sets, Register::from(p), pair.left)),
+        (Term::Number(_), Term::Parameter(q)) => Some(changed(sets, Register::from(q), pair.right)),
         (Term::Parameter(p), Term::Parameter(q)) => {
-            kept_registers(sets, register_of(p), register_of(q), pair)
+            kept_registers(sets, Register::from(p), Register::from(q), pair)
         }
     }
 }
 
-// What every domain of such states answers; a kind of set makes it one by handing its calls on.
-impl<V: NumberSet> Pointwise<V> {
-    pub(crate) fn everything() -> Self
-        ensures { result ≡ any V.NumberSet.sets registers }
-    {
-        Pointwise::Each([V::whole(); REGISTERS])
-    }
+fn kept<V: NumberSet>(sets: &[V; REGISTERS], condition: Condition) -> Option<[V; REGISTERS]>
+    ensures { result ≡ keep V.NumberSet.sets registers (Some sets.now) condition }
+{
+    let left = term(sets, condition.left);
+    let right = term(sets, condition.right);
+    let pair = left.kept(condition.rel, right)?;
+    kept_sides(sets, condition.left, condition.right, pair)
+}
 
-    pub(crate) fn narrowed(&self, register: usize, range: Range) -> Self
-        requires { register < registers }
-        ensures { result ≡ narrow V.NumberSet.sets registers self.now register range }
-    {
-        match self {
-            Pointwise::None => Pointwise::None,
-            Pointwise::Each(sets) => put(sets, register, sets[register].narrow(range)),
+// Beside no environment the other state stays.
+fn merged<V: NumberSet, F: Fn(V, V) -> V>(
+    left: &Pointwise<V>,
+    right: &Pointwise<V>,
+    f: F,
+) -> Pointwise<V>
+    requires { F.IsAlwaysCallable f }
+    ensures { (g : V → V → V) → Computes (F.post f) g → result.sets ≡ merged V.NumberSet.sets registers g left.now.sets right.now.sets }
+{
+    match (&left.sets, &right.sets) {
+        (None, _) => *right,
+        (_, None) => *left,
+        (Some(xs), Some(ys)) => Pointwise {
+            sets: Some(pairwise(xs, ys, f)),
+        },
+    }
+}
+
+// Each operation matches on what is there: a closure of a generic function needs clauses of its own, which are longer.
+impl<V: NumberSet> Domain for Pointwise<V> {
+    // each register's set can be widened so often
+    const NONE_RANK: u64 = V::MOST_WIDENINGS as u64 * REGISTERS as u64 + 1;
+
+    ghost NONE_RANK = { (V.NumberSet.MOST_WIDENINGS * registers + 1) % 2 ^ 64 };
+
+    ghost lattice = { pointwise V.NumberSet.sets registers };
+
+    ghost strict = { true };
+
+    ghost exact = { true };
+
+    ghost tracks = { tracks V.NumberSet.sets registers };
+
+    ghost ranked = { none_ranked V.NumberSet.sets V.NumberSet.MOST_WIDENINGS V.NumberSet.widenings };
+
+    ghost lawful = { state_lawful V.NumberSet.sets V.NumberSet.lawful registers registers_named };
+
+    ghost nothing = { λ h. state_strict V.NumberSet.sets registers };
+
+    ghost tracking = { λ h. state_tracking V.NumberSet.sets V.NumberSet.lawful V.NumberSet.exact registers registers_named };
+
+    #[tactic(auto, unfolding(crate::specs::Tables::build))]
+    fn any() -> Self {
+        Pointwise {
+            sets: Some([V::whole(); REGISTERS]),
         }
     }
 
-    pub(crate) fn kept(&self, condition: Condition) -> Self
-        ensures { result ≡ keep V.NumberSet.sets registers self.now condition }
-    {
-        match self {
-            Pointwise::None => Pointwise::None,
-            Pointwise::Each(sets) => {
-                let left = term(sets, condition.left);
-                let right = term(sets, condition.right);
-                let kept = left.kept(condition.rel, right);
-                kept_sides(sets, condition.left, condition.right, kept)
-            }
+    fn none() -> Self {
+        Pointwise { sets: None }
+    }
+
+    fn narrow(&self, register: Register, range: Range) -> Self {
+        let Some(sets) = &self.sets else {
+            return *self;
+        };
+        Pointwise {
+            sets: put(sets, register, sets[register.index].narrow(range)),
         }
     }
 
-    pub(crate) fn assigned(&self, register: usize, expression: Expression) -> Self
-        requires { register < registers }
-        ensures { result ≡ set V.NumberSet.sets registers self.now register expression }
-    {
-        match self {
-            Pointwise::None => Pointwise::None,
-            Pointwise::Each(sets) => put(sets, register, value(sets, expression)),
+    fn keep(&self, condition: Condition) -> Self {
+        let Some(sets) = &self.sets else {
+            return *self;
+        };
+        Pointwise {
+            sets: kept(sets, condition),
         }
     }
 
-    pub(crate) fn joined(&self, other: &Self) -> Self
-        ensures { result ≡ join V.NumberSet.sets registers self.now other.now }
-    {
-        match (self, other) {
-            (Pointwise::None, _) => *other,
-            (_, Pointwise::None) => *self,
-            (Pointwise::Each(left), Pointwise::Each(right)) => Pointwise::Each(hulls(left, right)),
+    fn set(&self, register: Register, expression: Expression) -> Self {
+        let Some(sets) = &self.sets else {
+            return *self;
+        };
+        Pointwise {
+            sets: put(sets, register, value(sets, expression)),
         }
     }
 
-    pub(crate) fn widened_by(&self, other: &Self) -> Self
-        ensures { result ≡ widen V.NumberSet.sets registers self.now other.now }
-    {
-        match (self, other) {
-            (Pointwise::None, _) => *other,
-            (_, Pointwise::None) => *self,
-            (Pointwise::Each(old), Pointwise::Each(new)) => Pointwise::Each(widened(old, new)),
+    fn join(&self, other: &Self) -> Self {
+        merged(self, other, V::hull)
+    }
+
+    fn widen(&self, other: &Self) -> Self {
+        merged(self, other, V::widen)
+    }
+
+    fn within(&self, other: &Self) -> bool {
+        match (&self.sets, &other.sets) {
+            (None, _) => true,
+            (_, None) => false,
+            (Some(inner), Some(outer)) => all_inside(inner, outer),
         }
     }
 
-    pub(crate) fn lies_in(&self, other: &Self) -> bool
-        ensures { result ≡ within V.NumberSet.sets registers self.now other.now }
-    {
-        match (self, other) {
-            (Pointwise::None, _) => true,
-            (_, Pointwise::None) => false,
-            (Pointwise::Each(inner), Pointwise::Each(outer)) => all_inside(inner, outer),
+    fn sure(&self, expression: Expression) -> bool {
+        match &self.sets {
+            None => true,
+            Some(sets) => sure_value(sets, expression),
         }
     }
 
-    pub(crate) fn never_faults(&self, expression: Expression) -> bool
-        ensures { result ≡ sure V.NumberSet.sets registers self.now expression }
-    {
-        match self {
-            Pointwise::None => true,
-            Pointwise::Each(sets) => sure_value(sets, expression),
+    fn shows(&self, side: Side) -> bool {
+        match &self.sets {
+            None => true,
+            Some(sets) => bounded(sets, side),
         }
     }
 
-    pub(crate) fn keeps_side(&self, side: Side) -> bool
-        ensures { result ≡ shows V.NumberSet.sets registers self.now side }
-    {
-        match self {
-            Pointwise::None => true,
-            Pointwise::Each(sets) => bounded(sets, side),
-        }
-    }
-
-    pub(crate) fn range_of(&self, register: usize, range: Range) -> Range
-        requires { register < registers }
-        ensures { result ≡ range_of V.NumberSet.sets registers self.now register range }
-    {
-        match self {
-            Pointwise::None => Range { lo: 1, hi: 0 },
-            Pointwise::Each(sets) => sets[register].range(range),
+    fn range(&self, register: Register, range: Range) -> Range {
+        match &self.sets {
+            None => EMPTY,
+            Some(sets) => sets[register.index].range(range),
         }
     }
 }

@@ -2,7 +2,8 @@
 ghost use Rattle.std.specs.Prelude.{◌≡◌, ◌<◌, length, if◌then◌else◌, OnSome};
 ghost use Rattle.std.specs.Option.{unwrap_or};
 ghost use Rattle.model.specs.Blocks.{block_of};
-ghost use Rattle.model.specs.Environments.{registers, position};
+ghost use Rattle.model.specs.Environments.{position};
+ghost use Rattle.model.specs.Sides.{axis_register};
 ghost use Rattle.model.specs.Programs.{Closed};
 ghost use Rattle.model.specs.Values.{holds};
 ghost use Rattle.program.specs.Held.{held};
@@ -13,8 +14,8 @@ ghost use Rattle.runner.specs.Steps.{worked, set_if, line_at, line_under, behind
 use crate::value::{meets, value};
 use model::axes::Position;
 use model::expression::{Condition, Value};
-use model::line::Line;
-use model::register::{PARAMETERS, REGISTERS, register_of};
+use model::line::{Axis, Line};
+use model::register::{PARAMETERS, REGISTERS, Register};
 use program::table::Program;
 
 #[derive(Clone, Copy)]
@@ -107,12 +108,11 @@ impl Run {
     }
 
     // Gives the axis its result, if there is one.
-    fn put(&mut self, r: usize, x: Option<i32>)
-        requires { r < registers }
-        ensures { self.new ≡ record { at = self.old.at; registers = set_if self.old.registers r x } }
+    fn put(&mut self, axis: Axis, x: Option<i32>)
+        ensures { self.new ≡ record { at = self.old.at; registers = set_if self.old.registers (axis_register axis) x } }
     {
         if let Some(x) = x {
-            self.registers[r] = x;
+            self.registers[Register::from(axis).index] = x;
         }
     }
 
@@ -126,10 +126,10 @@ impl Run {
     ) -> Stepped
         ensures { gone self.new result ≡ commanded n (set_if (set_if (set_if (set_if self.old.registers 0 x) 1 y) 2 z) 3 u) }
     {
-        self.put(0, x);
-        self.put(1, y);
-        self.put(2, z);
-        self.put(3, u);
+        self.put(Axis::X, x);
+        self.put(Axis::Y, y);
+        self.put(Axis::Z, z);
+        self.put(Axis::U, u);
         self.at = Some(n);
         Stepped::Commanded(self.position())
     }
@@ -167,7 +167,7 @@ impl Run {
                     },
                 ),
             ) => {
-                self.registers[register_of(parameter)] = value(&self.registers, v)?;
+                self.registers[Register::from(parameter).index] = value(&self.registers, v)?;
                 self.go(n + 1)
             }
             (Some(n), Some(Line::Move { x, y, z, u, .. })) => {

@@ -5,14 +5,14 @@ ghost use Rattle.runner.specs.Steps.{fitting, value_of};
 
 use model::expression::{Condition, Expression, Term, Value};
 use model::range::fits;
-use model::register::{REGISTERS, register_of};
+use model::register::{REGISTERS, Register};
 
 fn term(registers: &[i32; REGISTERS], t: Term) -> i32
     ensures { result ≡ term registers.now t }
 {
     match t {
         Term::Number(n) => n,
-        Term::Parameter(p) => registers[register_of(p)],
+        Term::Parameter(p) => registers[Register::from(p).index],
     }
 }
 

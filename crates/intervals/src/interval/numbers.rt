@@ -1,4 +1,5 @@
 // An interval is a set of numbers.
+ghost use Rattle.std.specs.Prelude.{refl};
 ghost use Rattle.intervals.specs.Intervals.{intervals};
 ghost use Rattle.intervals.specs.Laws.{intervals_lawful, intervals_exact};
 
@@ -11,7 +12,14 @@ use model::side::{Factor, Sign};
 use number_sets::sets::{NumberSet, Pair};
 
 impl NumberSet for Interval {
+    // each end can move once
+    const MOST_WIDENINGS: u32 = 2;
+
+    ghost MOST_WIDENINGS = { 2 };
+
     ghost sets = { intervals };
+
+    ghost widenings = { refl };
 
     ghost lawful = { intervals_lawful };
 

@@ -2,6 +2,6 @@ use Rattle.std.proofs.Common.{◌≡◌, drop}
 use Rattle.sweep.specs.Sweeps.{set_all}
 use Rattle.certify.proofs.axes.set_axes.Given as goal
 
-abbrev pub invariant-loop-register : goal.invariant-loop-register
-invariant-loop-register g l =
-    set_all g.D.Domain.lattice 0 l.values l.initial.after ≡ set_all g.D.Domain.lattice l.register (drop l.register l.values) l.after
+abbrev pub invariant-loop-index : goal.invariant-loop-index
+invariant-loop-index g l =
+    set_all g.D.Domain.lattice 0 l.values l.initial.after ≡ set_all g.D.Domain.lattice l.index (drop l.index l.values) l.after
