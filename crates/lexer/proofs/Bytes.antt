@@ -8,7 +8,7 @@ use Rattle.lexer.specs.declared.class.Class.TheVariants.{Letter, Digit, Mark, Bl
 use Rattle.lexer.specs.declared.token.Token.{Token}
 use Rattle.lexer.specs.Classes.{class, same, run}
 use Rattle.lexer.specs.Parts.{size, size_by, Found}
-use Rattle.lexer.proofs.Heads.{size_some}
+use Rattle.lexer.proofs.Heads.{run_step, size_some}
 
 by_digit : (p q r : Bool) → same (cond p Letter (cond q Digit (cond r Blank Mark))) Digit ≡ true → q ≡ true
 by_digit true q r e = absurd (let z : ◌≡◌ {A = ℕ} 0 1 = cc in omega arith)
@@ -26,10 +26,10 @@ digit_value b e =
 run_digits : (s : List ℕ) → AllDigits 10 (take (run Digit s) s)
 run_digits [] = tt
 run_digits (b ∷ bs) =
-    elim (same (class b) Digit) as (λ v. same (class b) Digit ≡ v → AllDigits 10 (take (cond v (suc (run Digit bs)) 0) (b ∷ bs))) [
+    subst (λ n. AllDigits 10 (take n (b ∷ bs))) (sym (run_step Digit b bs)) (elim (same (class b) Digit) as (λ v. same (class b) Digit ≡ v → AllDigits 10 (take (cond v (suc (run Digit bs)) 0) (b ∷ bs))) [
       | true ↦ λ e. (digit_value b e, run_digits bs)
       | false ↦ λ e. tt
-    ] refl
+    ] refl)
 
 some : (s : List ℕ) → 0 < length s → 1 ≤ size s
 some [] h = absurd (omega arith)
