@@ -1,5 +1,6 @@
 -- From rows of symbols to texts: what a text is answered is an answer by the grammar.
 use Rattle.std.proofs.Common.{◌≡◌, ℕ, zero, suc, ◌-◌, ◌<◌, ◌≤◌, Bool, true, false, cond, ◌&&◌, eqb, leb, List, [], ◌∷◌, ◌++◌, length, get_or, drop, sym, refl, ap, ◌∙◌, subst, arith, length-append}
+use Rattle.std.proofs.lemmas.List.Sums.{prefix_len-le-length}
 use Rattle.std.proofs.lemmas.Bool.Decides.{nat_tests}
 use Rattle.std.proofs.lemmas.Bool.{eq-eqb}
 use Rattle.model.specs.declared.line.Line.{Line}
@@ -75,14 +76,17 @@ allowed_no b n =
       | false ↦ λ e. refl
     ] refl
 
+clear_step : (b : ℕ) (bs : List ℕ) → clear (b ∷ bs) ≡ cond (permitted b) (suc (clear bs)) 0
+clear_step b bs = ap (λ n. cond (permitted b) n 0) (omega arith)
+
 clear_all : (s : List ℕ) → ((i : ℕ) → i < length s → Allowed (get_or s i 0)) → clear s ≡ length s
 clear_all [] h = refl
-clear_all (b ∷ bs) h = ap (λ v. cond v (suc (clear bs)) 0) (allowed_yes b (h 0 (omega arith))) ∙ ap suc (clear_all bs (λ i l. h (suc i) (omega arith)))
+clear_all (b ∷ bs) h = clear_step b bs ∙ ap (λ v. cond v (suc (clear bs)) 0) (allowed_yes b (h 0 (omega arith))) ∙ ap suc (clear_all bs (λ i l. h (suc i) (omega arith)))
 
 pub clear_to : (s : List ℕ) (p : ℕ) → p < length s → (Allowed (get_or s p 0) → ⊥) → ((i : ℕ) → i < p → Allowed (get_or s i 0)) → clear s ≡ p
 clear_to [] p l n h = absurd (omega arith)
-clear_to (b ∷ bs) zero l n h = ap (λ v. cond v (suc (clear bs)) 0) (allowed_no b n)
-clear_to (b ∷ bs) (suc p) l n h = ap (λ v. cond v (suc (clear bs)) 0) (allowed_yes b (h 0 (omega arith))) ∙ ap suc (clear_to bs p (omega arith) n (λ i k. h (suc i) (omega arith)))
+clear_to (b ∷ bs) zero l n h = clear_step b bs ∙ ap (λ v. cond v (suc (clear bs)) 0) (allowed_no b n)
+clear_to (b ∷ bs) (suc p) l n h = clear_step b bs ∙ ap (λ v. cond v (suc (clear bs)) 0) (allowed_yes b (h 0 (omega arith))) ∙ ap suc (clear_to bs p (omega arith) n (λ i k. h (suc i) (omega arith)))
 
 goes_on : (v : Bool) (n m : ℕ) → cond v (suc n) 0 ≡ suc m → (v ≡ true) × (n ≡ m)
 goes_on true n m e = (refl, omega arith)
@@ -93,8 +97,8 @@ yes_allowed b e = (grind (arith, nat_tests), grind (arith, nat_tests))
 
 cleared : (s : List ℕ) → clear s ≡ length s → (i : ℕ) → i < length s → Allowed (get_or s i 0)
 cleared [] e i l = absurd (omega arith)
-cleared (b ∷ bs) e zero l = yes_allowed b (goes_on (leb 32 b && leb b 126) (clear bs) (length bs) e).0
-cleared (b ∷ bs) e (suc i) l = cleared bs (goes_on (leb 32 b && leb b 126) (clear bs) (length bs) e).1 i (omega arith)
+cleared (b ∷ bs) e zero l = yes_allowed b (goes_on (leb 32 b && leb b 126) (clear bs) (length bs) (sym (clear_step b bs) ∙ e)).0
+cleared (b ∷ bs) e (suc i) l = cleared bs (goes_on (leb 32 b && leb b 126) (clear bs) (length bs) (sym (clear_step b bs) ∙ e)).1 i (omega arith)
 
 -- ---- the two tests before the tokens
 pub clean_answer : (s : List ℕ) → Clean s → answer s ≡ reading s
@@ -124,7 +128,7 @@ reading_is s (bad k rest) e c = stuck k _ c (refuses_at s k _ (bad k rest) e ref
 
 first_spoilt : (s : List ℕ) → clear s < length s → (Allowed (get_or s (clear s) 0) → ⊥) × ((i : ℕ) → i < clear s → Allowed (get_or s i 0))
 first_spoilt [] h = absurd (omega arith)
-first_spoilt (b ∷ bs) h = go (leb 32 b && leb b 126) refl (first_spoilt bs) h
+first_spoilt (b ∷ bs) h = subst (λ n. n < length (b ∷ bs) → (Allowed (get_or (b ∷ bs) n 0) → ⊥) × ((i : ℕ) → i < n → Allowed (get_or (b ∷ bs) i 0))) (sym (clear_step b bs)) (go (leb 32 b && leb b 126) refl (first_spoilt bs)) h
   where
     go : (v : Bool) → leb 32 b && leb b 126 ≡ v → (clear bs < length bs → (Allowed (get_or bs (clear bs) 0) → ⊥) × ((i : ℕ) → i < clear bs → Allowed (get_or bs i 0))) → cond v (suc (clear bs)) 0 < length (b ∷ bs) →
         (Allowed (get_or (b ∷ bs) (cond v (suc (clear bs)) 0) 0) → ⊥) × ((i : ℕ) → i < cond v (suc (clear bs)) 0 → Allowed (get_or (b ∷ bs) i 0))
@@ -135,16 +139,12 @@ first_spoilt (b ∷ bs) h = go (leb 32 b && leb b 126) refl (first_spoilt bs) h
         at f below (suc i) l = below i (omega arith)
     go false e more q = (λ a. true_false (allowed_yes b a) e, λ i l. absurd (omega arith))
 
-clear_within : (s : List ℕ) → clear s ≤ length s
-clear_within [] = omega arith
-clear_within (b ∷ bs) = elim (permitted b) as (λ v. cond v (suc (clear bs)) 0 ≤ length (b ∷ bs)) [ true ↦ omega (arith, clear_within bs) | false ↦ omega arith ]
-
 answer_is : (s : List ℕ) (t u : Bool) → leb (length s) 120 ≡ t → eqb (clear s) (length s) ≡ u → Answers s (cond t (cond u (reading s) (refused 12 (clear s))) (refused 11 120))
 answer_is s true true p q = reading_is s _ refl (let h : length s ≤ 120 = grind (arith, nat_tests) in h, cleared s (let h : clear s ≡ length s = grind (arith, nat_tests) in h))
 answer_is s true false p q =
     let short : length s ≤ 120 = grind (arith, nat_tests) in
     let apart : clear s ≡ length s → ⊥ = λ e. true_false (eq-eqb _ _ e) q in
-    let less : clear s < length s = let w = clear_within s in omega (arith, apart) in
+    let less : clear s < length s = let w : clear s ≤ length s = prefix_len-le-length permitted s in omega (arith, apart) in
     let f = first_spoilt s less in
     spoilt (clear s) (short, less, f.0, f.1)
 answer_is s false u p q = too_long (let h : 120 < length s = grind (arith, nat_tests) in h)
