@@ -1,5 +1,5 @@
--- The bytes of a token: at least one, and where the first is a digit, digits only.
-use Rattle.std.proofs.Common.{◌≡◌, ℕ, suc, ◌<◌, ◌≤◌, Bool, true, false, cond, ◌&&◌, ◌||◌, eqb, leb, List, [], ◌∷◌, length, get_or, take, drop, sym, refl, ap, ◌∙◌, subst, arith, length-drop, length-take-le, get_or-take, Bor}
+-- The bytes of a token: where the first is a digit, digits only.
+use Rattle.std.proofs.Common.{◌≡◌, ℕ, suc, ◌<◌, ◌≤◌, Bool, true, false, cond, ◌&&◌, ◌||◌, eqb, leb, List, [], ◌∷◌, length, get_or, take, drop, sym, refl, ap, ◌∙◌, subst, arith, length-drop, get_or-take, Bor}
 use Rattle.std.proofs.lemmas.Bool.Decides.{nat_tests}
 use Rattle.std.proofs.lemmas.Str.{digit_value_digit}
 use Rattle.std.specs.Char.{digit_value as digitValue}
@@ -45,11 +45,6 @@ digits_only s h e =
 module _ (text : Bor (List ℕ)) (n m : ℕ) (t : Token) (f : Found text n t m) where
   rest_some : 0 < length (drop t.place text.now)
   rest_some = omega (arith, length-drop t.place text.now, f.some)
-
-  pub token_some : 1 ≤ length t.part.now
-  token_some =
-      let q = drop t.place text.now in
-      omega (arith, ap length f.part.bytes, length-take-le (size q) q (omega (arith, f.after, f.within, length-drop t.place text.now)), some q rest_some)
 
   pub token_digits : class (get_or t.part.now 0 0) ≡ Digit → AllDigits 10 t.part.now
   token_digits e = subst (λ l. AllDigits 10 l) (sym f.part.bytes) (digits_only (drop t.place text.now) rest_some (ap (λ l. class (get_or l 0 0)) (sym f.part.bytes) ∙ e))

@@ -4,7 +4,7 @@ use denote.Enum.Bare.{same_true}
 use Rattle.lexer.specs.contracts.class.Class.{the_type}
 use Rattle.std.specs.List.{AllByRecursion}
 use Rattle.std.proofs.lemmas.List.Sums.{prefix_len-le-length}
-use Rattle.std.proofs.lemmas.List.{take_at, drop_at}
+use Rattle.std.proofs.lemmas.List.{take_at, drop_at, take-append-drop, length-take-le}
 use Rattle.lexer.specs.declared.class.Class.{Class}
 use Rattle.lexer.specs.declared.class.Class.TheVariants.{Letter, Digit, Blank, Mark}
 use Rattle.lexer.specs.Classes.{class, same, run}
@@ -48,16 +48,6 @@ run_whole k [] (b ∷ s) a h = run_step k b s ∙ ap (λ v. cond v (suc (run k s
 run_whole k (b ∷ t) s (e, a) h = run_step k b (t ++ s) ∙ ap (λ v. cond v (suc (run k (t ++ s))) 0) (ap (λ j. same j k) e ∙ same_refl k) ∙ ap suc (run_whole k t s a h)
 
 -- ---- each text has its tokens
-split : (n : ℕ) (s : List ℕ) → n ≤ length s → take n s ++ drop n s ≡ s
-split zero s h = refl
-split (suc n) [] h = absurd (omega arith)
-split (suc n) (b ∷ bs) h = ap (λ l. b ∷ l) (split n bs (omega arith))
-
-taken : (n : ℕ) (s : List ℕ) → n ≤ length s → length (take n s) ≡ n
-taken zero s h = refl
-taken (suc n) [] h = absurd (omega arith)
-taken (suc n) (b ∷ bs) h = ap suc (taken n bs (omega arith))
-
 size_within : (b : ℕ) (bs : List ℕ) (k : Class) → class b ≡ k → size_by k (b ∷ bs) ≤ length (b ∷ bs)
 size_within b bs Letter e = prefix_len-le-length (λ c. same (class c) Letter) (b ∷ bs)
 size_within b bs Digit e = prefix_len-le-length (λ c. same (class c) Digit) (b ∷ bs)
@@ -79,7 +69,7 @@ first_token b bs Mark e n = mark b e
 
 -- a token in front of the tokens of the rest
 headed : (p : ℕ) (s : List ℕ) (n : ℕ) (ls : List Lexeme) → n ≤ length s → IsToken (take n s) (drop n s) → LexemesAre (p + n) (drop n s) ls → LexemesAre p s (record { place = p; bytes = take n s } ∷ ls)
-headed p s n ls h t l = subst (λ x. LexemesAre p x (record { place = p; bytes = take n s } ∷ ls)) (split n s h) (token (take n s) t (subst (λ m. LexemesAre (p + m) (drop n s) ls) (sym (taken n s h)) l))
+headed p s n ls h t l = subst (λ x. LexemesAre p x (record { place = p; bytes = take n s } ∷ ls)) (take-append-drop n s) (token (take n s) t (subst (λ m. LexemesAre (p + m) (drop n s) ls) (sym (length-take-le n s h)) l))
 
 are_lexemes : (n p : ℕ) (s : List ℕ) → length s ≤ n → LexemesAre p s (lexemes_from 0 p s)
 are_lexemes n p [] h = none
