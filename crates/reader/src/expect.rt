@@ -3,9 +3,10 @@ ghost use Rattle.std.specs.Prelude.{◌≡◌};
 ghost use Rattle.grammar.specs.Tests.{tried, outcome, digits, only, axis, relation};
 ghost use Rattle.grammar.specs.Parser.{term_first, value_first, operator, block_word, line_first};
 
+use crate::term::positive;
 use grammar::refusal::{Cause, Refusal};
 use grammar::symbol::{BlockWord, Keyword, LineStart, Symbol, TermStart, ValueStart};
-use model::expression::{LIMIT, Op, Rel, Term};
+use model::expression::{LIMIT, Op, Rel};
 use model::line::Axis;
 
 // What a test at a place comes to.
@@ -19,7 +20,7 @@ pub fn digits(t: Option<Symbol>, lo: u32, hi: u32) -> Result<u32, Cause>
     ensures { result ≡ tried (digits lo hi) t }
 {
     match t {
-        Some(Symbol::Digits(n)) if n >= lo && n <= hi => Ok(n),
+        Some(Symbol::Digits(n)) if (lo..=hi).contains(&n) => Ok(n),
         Some(Symbol::Digits(_) | Symbol::Long) => Err(Cause::Limit),
         _ => Err(Cause::Unexpected),
     }
@@ -32,11 +33,9 @@ pub fn term_first(t: Option<Symbol>) -> Result<TermStart, Cause>
         Some(Symbol::Fixed(Keyword::Hash)) => Ok(TermStart::Hash),
         Some(Symbol::Fixed(Keyword::Plus)) => Ok(TermStart::Plus),
         Some(Symbol::Fixed(Keyword::Minus)) => Ok(TermStart::Minus),
-        Some(Symbol::Digits(n)) if n <= LIMIT as u32 => Ok(TermStart::Whole(Term::Number(
-            n as i32,
-        ))),
-        Some(Symbol::Digits(_) | Symbol::Long) => Err(Cause::Limit),
-        _ => Err(Cause::Unexpected),
+        _ => digits(t, 0, LIMIT as u32)
+            .map(positive)
+            .map(TermStart::Whole),
     }
 }
 
