@@ -1,13 +1,14 @@
 -- The end of a line, and a line that may end or go on.
-use Rattle.std.proofs.Common.{◌≡◌, ℕ, Bool, true, false, cond, List, [], ◌∷◌, sym, refl, ap, ◌∙◌, subst, inl, inr, true≢false, arith}
+use Rattle.std.proofs.Common.{◌≡◌, ℕ, Bool, true, false, cond, List, [], ◌∷◌, sym, refl, ap, ◌∙◌, subst, inl, inr, true≢false, arith, Ok, Err, Result}
 use Rattle.model.specs.declared.line.Line.{Line}
 use Rattle.grammar.specs.declared.symbol.Symbol.{Symbol}
 use Rattle.grammar.specs.declared.symbol.Symbol.TheVariants.{Digits}
 use Rattle.grammar.specs.Prefixes.{Lang, Follows, Viable, Stuck}
 use Rattle.grammar.specs.Prefixes.{Again}
 use Rattle.grammar.specs.Axes.{names}
-use Rattle.grammar.specs.declared.symbol.Tested.{Tested}
-use Rattle.grammar.specs.declared.symbol.Tested.TheVariants.{Fits as fits, Over as over, Wrong as wrong}
+use Rattle.grammar.specs.declared.refusal.Cause.{Cause}
+use Rattle.grammar.specs.declared.refusal.Cause.TheVariants.{Unexpected}
+use Rattle.grammar.specs.Causes.{number_of}
 use Rattle.grammar.specs.Combinators.{got, bad, Parser, after, tested, ends, or_more}
 use Rattle.grammar.proofs.Reading.{pure_l, or_moreL, Lines}
 use Rattle.grammar.proofs.Cuts.{never, refused_same, empty_cons}
@@ -15,8 +16,8 @@ use Rattle.grammar.proofs.Cuts.{never, refused_same, empty_cons}
 pub true_false : {P : Type 0} {v : Bool} → v ≡ true → v ≡ false → P
 true_false p q = absurd (true≢false (sym p ∙ q))
 
-clash_wrong : {A P : Type 0} {v : Tested A} {a : A} → v ≡ fits a → v ≡ wrong → P
-clash_wrong p q = absurd (let z : ◌≡◌ {A = ℕ} 0 1 = cc in omega arith)
+clash : {A P : Type 0} {v : Result A Cause} {a : A} {c : Cause} → v ≡ Ok a → v ≡ Err c → P
+clash p q = absurd (let z : ◌≡◌ {A = ℕ} 0 1 = cc in omega arith)
 
 -- ---- the end of a line that names nothing
 module _ (l : Line) (none : (t : Symbol) → names l t ≡ false) where
@@ -40,22 +41,22 @@ module _ (l : Line) (none : (t : Symbol) → names l t ≡ false) where
   lines_end = record { accepts = end_accepts; lawful = end_lawful; refuses = end_refuses; some = ([], l, (refl, refl)) }
 
 -- ---- the end of the line l, or more; no digits pass the test
-module _ {A : Type 0} (l : Line) (f : Symbol → Tested A) (Q : A → Lang Line) (q : A → Parser Line) (rq : (t : Symbol) (a : A) → names l t ≡ false → f t ≡ fits a → Lines (Q a) (q a)) (in-limits : (t : Symbol) → f t ≡ over → ⊥) (no-digits : (n : ℕ) (a : A) → f (Digits n) ≡ fits a → ⊥) where
+module _ {A : Type 0} (l : Line) (f : Symbol → Result A Cause) (Q : A → Lang Line) (q : A → Parser Line) (rq : (t : Symbol) (a : A) → names l t ≡ false → f t ≡ Ok a → Lines (Q a) (q a)) (wrong-only : (t : Symbol) (c : Cause) → f t ≡ Err c → c ≡ Unexpected) (no-digits : (n : ℕ) (a : A) → f (Digits n) ≡ Ok a → ⊥) where
   -- a row of the language that begins with t goes on with a row of Q
-  other : (t : Symbol) (zs : List Symbol) (a : A) (b : Line) → f t ≡ fits a → or_moreL l f Q (t ∷ zs) b → Q a zs b
+  other : (t : Symbol) (zs : List Symbol) (a : A) (b : Line) → f t ≡ Ok a → or_moreL l f Q (t ∷ zs) b → Q a zs b
   other t zs a b h (inl e) = empty_cons (sym e.0)
   other t zs a b h (inr (u, vs, c, e, n, g, y)) =
       let same-t : t ≡ u = cc in
       let same-zs : vs ≡ zs = cc in
-      let g' : f t ≡ fits c = ap f same-t ∙ g in
+      let g' : f t ≡ Ok c = ap f same-t ∙ g in
       let same-c : c ≡ a = cc in
       subst (λ d. Q d zs b) same-c (subst (λ x. Q c x b) same-zs y)
 
-  one : (t : Symbol) (zs : List Symbol) (a : A) (b : Line) → names l t ≡ false → f t ≡ fits a → Q a zs b → or_moreL l f Q (t ∷ zs) b
+  one : (t : Symbol) (zs : List Symbol) (a : A) (b : Line) → names l t ≡ false → f t ≡ Ok a → Q a zs b → or_moreL l f Q (t ∷ zs) b
   one t zs a b n h y = inr (t, zs, a, refl, n, h, y)
 
   -- a token that may stand first
-  first : (t : Symbol) → Follows (or_moreL l f Q) [] t → (a : A) × (names l t ≡ false) × (f t ≡ fits a)
+  first : (t : Symbol) → Follows (or_moreL l f Q) [] t → (a : A) × (names l t ≡ false) × (f t ≡ Ok a)
   first t (vs, b, inl e) = empty_cons (sym e.0)
   first t (vs, b, inr (u, ws, a, e, n, h, y)) = let same-t : u ≡ t = cc in (a, ap (names l) (sym same-t) ∙ n, ap f (sym same-t) ∙ h)
 
@@ -73,23 +74,22 @@ module _ {A : Type 0} (l : Line) (f : Symbol → Tested A) (Q : A → Lang Line)
   accepts (t ∷ ts) b (inr (u, vs, a, e, n, h, y)) =
       ap (or_more l f q) e ∙ ap (λ c. cond c (bad 15 (u ∷ vs)) (after (tested (f u) u vs) q)) n ∙ ap (λ c. after (tested c u vs) q) h ∙ (rq u a n h).accepts vs b y
 
-  lawful_at : (t : Symbol) (ts rest : List Symbol) (b : Line) (c : Bool) (v : Tested A) → names l t ≡ c → f t ≡ v → cond c (bad 15 (t ∷ ts)) (after (tested v t ts) q) ≡ got b rest → (rest ≡ []) × or_moreL l f Q (t ∷ ts) b
+  lawful_at : (t : Symbol) (ts rest : List Symbol) (b : Line) (c : Bool) (v : Result A Cause) → names l t ≡ c → f t ≡ v → cond c (bad 15 (t ∷ ts)) (after (tested v t ts) q) ≡ got b rest → (rest ≡ []) × or_moreL l f Q (t ∷ ts) b
   lawful_at t ts rest b true v n h e = never _ e refl
-  lawful_at t ts rest b false (fits a) n h e = let s = (rq t a n h).lawful ts rest b e in (s.0, one t ts a b n h s.1)
-  lawful_at t ts rest b false over n h e = never _ e refl
-  lawful_at t ts rest b false wrong n h e = never _ e refl
+  lawful_at t ts rest b false (Ok a) n h e = let s = (rq t a n h).lawful ts rest b e in (s.0, one t ts a b n h s.1)
+  lawful_at t ts rest b false (Err c) n h e = never _ e refl
 
   lawful : (ts rest : List Symbol) (b : Line) → or_more l f q ts ≡ got b rest → (rest ≡ []) × or_moreL l f Q ts b
   lawful [] rest b e = let r : rest ≡ [] = cc in let s : l ≡ b = cc in (r, inl (refl, s))
   lawful (t ∷ ts) rest b e = lawful_at t ts rest b (names l t) (f t) refl refl e
 
-  refuses_at : (t : Symbol) (ts rest : List Symbol) (k : ℕ) (c : Bool) (v : Tested A) → names l t ≡ c → f t ≡ v → cond c (bad 15 (t ∷ ts)) (after (tested v t ts) q) ≡ bad k rest → Stuck (or_moreL l f Q) (Again (or_moreL l f Q)) (t ∷ ts) k rest
+  refuses_at : (t : Symbol) (ts rest : List Symbol) (k : ℕ) (c : Bool) (v : Result A Cause) → names l t ≡ c → f t ≡ v → cond c (bad 15 (t ∷ ts)) (after (tested v t ts) q) ≡ bad k rest → Stuck (or_moreL l f Q) (Again (or_moreL l f Q)) (t ∷ ts) k rest
   refuses_at t ts rest k true v n h e =
       let j : k ≡ 15 = cc in
       let same : t ∷ ts ≡ rest = cc in
       subst (λ x. Stuck (or_moreL l f Q) (Again (or_moreL l f Q)) (t ∷ ts) k x) same
       ([], refl, start, (λ w. true_false n (first t w).1, inl (j, (l, inl (refl, refl), n))))
-  refuses_at t ts rest k false (fits a) n h e =
+  refuses_at t ts rest k false (Ok a) n h e =
       let s = (rq t a n h).refuses ts rest k e in (
         t ∷ s.0,
         ap (λ x. t ∷ x) s.1,
@@ -102,12 +102,12 @@ module _ {A : Type 0} (l : Line) (f : Symbol → Tested A) (Q : A → Lang Line)
             (λ u w. (w.0, other t _ a _ h w.1, w.2))
             s.3,
       )
-  refuses_at t ts rest k false over n h e = absurd (in-limits t h)
-  refuses_at t ts rest k false wrong n h e =
-      let j : k ≡ 13 = cc in
+  refuses_at t ts rest k false (Err c) n h e =
+      let i : k ≡ number_of c = cc in
+      let j : k ≡ 13 = i ∙ ap number_of (wrong-only t c h) in
       let same : t ∷ ts ≡ rest = cc in
       subst (λ x. Stuck (or_moreL l f Q) (Again (or_moreL l f Q)) (t ∷ ts) k x) same
-      ([], refl, start, (λ w. clash_wrong (first t w).2 h, inr (inr (j, λ w. let d = first _ w.1.1 in no-digits _ d.0 d.2, λ w. true_false (named t w) n))))
+      ([], refl, start, (λ w. clash (first t w).2 h, inr (inr (j, λ w. let d = first _ w.1.1 in no-digits _ d.0 d.2, λ w. true_false (named t w) n))))
 
   refuses : (ts rest : List Symbol) (k : ℕ) → or_more l f q ts ≡ bad k rest → Stuck (or_moreL l f Q) (Again (or_moreL l f Q)) ts k rest
   refuses [] rest k e = never _ refl e

@@ -1,5 +1,5 @@
 -- The parser of axis words reads axis words, each axis at most once.
-use Rattle.std.proofs.Common.{◌≡◌, ℕ, zero, suc, ◌+◌, ◌-◌, ◌≤◌, Bool, true, false, List, [], ◌∷◌, ◌++◌, sym, refl, ap, ◌∙◌, subst, inl, inr, arith}
+use Rattle.std.proofs.Common.{◌≡◌, ℕ, zero, suc, ◌+◌, ◌-◌, ◌≤◌, Bool, true, false, List, [], ◌∷◌, ◌++◌, sym, refl, ap, ◌∙◌, subst, inl, inr, arith, Ok}
 use Rattle.model.specs.declared.expression.Value.{Value}
 use Rattle.model.specs.declared.line.Axis.{Axis}
 use Rattle.model.specs.declared.line.Motion.{Motion}
@@ -12,14 +12,13 @@ use Rattle.grammar.specs.Prefixes.{Lang}
 use Rattle.grammar.specs.Axes.{given, has, put, no_values, has_symbol, tally, count, motion_of, moved}
 use Rattle.grammar.specs.Grammar.{ValueIs, WordsAre}
 use Rattle.grammar.specs.Grammar as is
-use Rattle.grammar.specs.declared.symbol.Tested.TheVariants.{Fits as fits}
 use Rattle.grammar.proofs.Reading.{bindL, oneL, or_moreL, Lines}
 use Rattle.grammar.specs.Tests.{axis, digits}
 use Rattle.grammar.specs.Parser.{more, move}
 use Rattle.grammar.proofs.Lines.{lines_bind}
 use Rattle.grammar.proofs.Ones.{reads_one}
 use Rattle.grammar.proofs.Mores.{lines_more}
-use Rattle.grammar.proofs.Meets.{wrong_fits, upto_in, axis_over, axis_lawful, axis_is, digits_is}
+use Rattle.grammar.proofs.Meets.{err_ok, upto_in, axis_wrong, axis_lawful, axis_is, digits_is}
 use Rattle.grammar.proofs.Terms.{reads_digits}
 use Rattle.grammar.proofs.Values.{reads_value}
 
@@ -55,12 +54,12 @@ abbrev moreL : ℕ → Motion → AxisValues → Lang Line
 moreL zero g m = or_moreL (moved g m) axis (λ a ts b. ⊥)
 moreL (suc n) g m = or_moreL (moved g m) axis (λ a. bindL ValueIs (λ v. moreL n g (put m a v)))
 
-pub free : (m : AxisValues) (t : Symbol) (a : Axis) → has_symbol m t ≡ false → axis t ≡ fits a → has m a ≡ false
+pub free : (m : AxisValues) (t : Symbol) (a : Axis) → has_symbol m t ≡ false → axis t ≡ Ok a → has m a ≡ false
 free m t a n h = ap (has_symbol m) (sym (axis_is t a h)) ∙ n
 
 more_lines : (n : ℕ) (g : Motion) (m : AxisValues) → n + count m ≡ 4 → Lines (moreL n g m) (more n g m)
-more_lines zero g m c = lines_more (moved g m) axis _ _ (λ t a n h. full m a (omega arith) (free m t a n h)) (λ t e. axis_over t e) (λ n a e. wrong_fits e)
-more_lines (suc k) g m c = lines_more (moved g m) axis _ _ (λ t a n h. lines_bind _ _ _ _ reads_value (λ v. more_lines k g (put m a v) (one_more m a v k (free m t a n h) c))) (λ t e. axis_over t e) (λ n a e. wrong_fits e)
+more_lines zero g m c = lines_more (moved g m) axis _ _ (λ t a n h. full m a (omega arith) (free m t a n h)) (λ t c e. axis_wrong t c e) (λ n a e. err_ok e)
+more_lines (suc k) g m c = lines_more (moved g m) axis _ _ (λ t a n h. lines_bind _ _ _ _ reads_value (λ v. more_lines k g (put m a v) (one_more m a v k (free m t a n h) c))) (λ t c e. axis_wrong t c e) (λ n a e. err_ok e)
 
 -- ---- and the grammar's axis words
 more_to : (n : ℕ) (g : Motion) (m : AxisValues) (ts : List Symbol) (b : Line) → moreL n g m ts b → (k : AxisValues) × WordsAre m ts k × (moved g k ≡ b)

@@ -1,9 +1,9 @@
 -- Parsers of nothing and of one token, and languages with the same rows.
-use Rattle.std.proofs.Common.{◌≡◌, ℕ, List, [], ◌∷◌, ◌++◌, refl, ap, ◌∙◌, subst, inl, inr, arith}
+use Rattle.std.proofs.Common.{◌≡◌, ℕ, List, [], ◌∷◌, ◌++◌, refl, ap, ◌∙◌, subst, inl, inr, ⊎_elim, arith, Ok, Err, Result}
 use Rattle.grammar.specs.declared.symbol.Symbol.{Symbol}
 use Rattle.grammar.specs.Prefixes.{Lang, Follows, Viable, Stuck, nothing}
-use Rattle.grammar.specs.declared.symbol.Tested.{Tested}
-use Rattle.grammar.specs.declared.symbol.Tested.TheVariants.{Fits as fits, Over as over, Wrong as wrong}
+use Rattle.grammar.specs.declared.refusal.Cause.{Cause}
+use Rattle.grammar.specs.Causes.{number_of}
 use Rattle.grammar.specs.Combinators.{got, bad, Parser, tested, expect, pure}
 use Rattle.grammar.proofs.Reading.{Reads, oneL, pure_l, Lawful}
 use Rattle.grammar.proofs.Cuts.{stuck_same}
@@ -24,47 +24,41 @@ reads_pure a = record {
   some = ([], a, (refl, refl));
 }
 
-module _ {A : Type 0} (f : Symbol → Tested A) (lawful : Lawful f) where
+module _ {A : Type 0} (f : Symbol → Result A Cause) (lawful : Lawful f) where
   at_one : (t u : Symbol) (us : List Symbol) → [] ++ t ∷ us ≡ u ∷ [] → t ≡ u
   at_one t u us e = cc
 
   -- what may follow at the start
-  follows : (t : Symbol) → Follows (oneL f) [] t → (a : A) × (f t ≡ fits a)
+  follows : (t : Symbol) → Follows (oneL f) [] t → (a : A) × (f t ≡ Ok a)
   follows t (vs, a, (u, e, h)) = (a, ap f (at_one t u vs e) ∙ h)
 
-  may : (t : Symbol) (a : A) → f t ≡ fits a → Follows (oneL f) [] t
+  may : (t : Symbol) (a : A) → f t ≡ Ok a → Follows (oneL f) [] t
   may t a h = ([], a, (t, refl, h))
 
-  clash : {v : Tested A} (a : A) → v ≡ fits a → v ≡ over → ⊥
+  clash : {v : Result A Cause} {c : Cause} (a : A) → v ≡ Ok a → v ≡ Err c → ⊥
   clash a p q = let z : ◌≡◌ {A = ℕ} 0 1 = cc in omega arith
-
-  clash' : {v : Tested A} (a : A) → v ≡ fits a → v ≡ wrong → ⊥
-  clash' a p q = let z : ◌≡◌ {A = ℕ} 0 1 = cc in omega arith
 
   start : Viable (oneL f) []
   start = let s = lawful.some in (s.0 ∷ [], s.1, (s.0, refl, s.2))
 
-  stuck_at : (t : Symbol) (ts rest : List Symbol) (k : ℕ) (v : Tested A) → f t ≡ v → tested v t ts ≡ bad k rest → Stuck (oneL f) nothing (t ∷ ts) k rest
-  stuck_at t ts rest k (fits a) e h = absurd (let z : ◌≡◌ {A = ℕ} 0 1 = cc in omega arith)
-  stuck_at t ts rest k over e h =
+  stuck_at : (t : Symbol) (ts rest : List Symbol) (k : ℕ) (v : Result A Cause) → f t ≡ v → tested v t ts ≡ bad k rest → Stuck (oneL f) nothing (t ∷ ts) k rest
+  stuck_at t ts rest k (Ok a) e h = absurd (let z : ◌≡◌ {A = ℕ} 0 1 = cc in omega arith)
+  stuck_at t ts rest k (Err c) e h =
       let r : t ∷ ts ≡ rest = cc in
-      let n : k ≡ 14 = cc in
-      let l = lawful.limit t e in
+      let n : k ≡ number_of c = cc in
+      let no = λ (w : Follows (oneL f) [] t). clash (follows t w).0 (follows t w).1 e in
       subst (λ x. Stuck (oneL f) nothing (t ∷ ts) k x) r
-      ([], refl, start, (λ w. clash (follows t w).0 (follows t w).1 e, inr (inl (n, (l.0, (l.1.0, may _ l.1.1 l.1.2))))))
-  stuck_at t ts rest k wrong e h =
-      let r : t ∷ ts ≡ rest = cc in
-      let n : k ≡ 13 = cc in
-      subst (λ x. Stuck (oneL f) nothing (t ∷ ts) k x) r
-      ([], refl, start, (λ w. clash' (follows t w).0 (follows t w).1 e, inr (inr (n, λ w. lawful.not t e w.0 w.1.0 (follows _ w.1.1).0 (follows _ w.1.1).1, λ x. x))))
+      (⊎_elim
+      (λ l. ([], refl, start, (no, inr (inl (n ∙ ap number_of l.0, (l.1, (l.2.0, may _ l.2.1 l.2.2)))))))
+      (λ l. ([], refl, start, (no, inr (inr (n ∙ ap number_of l.0, λ w. l.1 w.0 w.1.0 (follows _ w.1.1).0 (follows _ w.1.1).1, λ x. x)))))
+      (lawful.refused t c e))
 
-  sound_at : (t : Symbol) (ts rest : List Symbol) (a : A) (v : Tested A) → f t ≡ v → tested v t ts ≡ got a rest → (us : List Symbol) × (t ∷ ts ≡ us ++ rest) × oneL f us a
-  sound_at t ts rest a (fits b) e h =
+  sound_at : (t : Symbol) (ts rest : List Symbol) (a : A) (v : Result A Cause) → f t ≡ v → tested v t ts ≡ got a rest → (us : List Symbol) × (t ∷ ts ≡ us ++ rest) × oneL f us a
+  sound_at t ts rest a (Ok b) e h =
       let r : ts ≡ rest = cc in
       let s : b ≡ a = cc in
-      (t ∷ [], ap (λ l. t ∷ l) r, (t, refl, e ∙ ap fits s))
-  sound_at t ts rest a over e h = absurd (let z : ◌≡◌ {A = ℕ} 0 1 = cc in omega arith)
-  sound_at t ts rest a wrong e h = absurd (let z : ◌≡◌ {A = ℕ} 0 1 = cc in omega arith)
+      (t ∷ [], ap (λ l. t ∷ l) r, (t, refl, e ∙ ap Ok s))
+  sound_at t ts rest a (Err c) e h = absurd (let z : ◌≡◌ {A = ℕ} 0 1 = cc in omega arith)
 
   sound : (ts rest : List Symbol) (a : A) → expect f ts ≡ got a rest → (us : List Symbol) × (ts ≡ us ++ rest) × oneL f us a
   sound [] rest a h = absurd (let z : ◌≡◌ {A = ℕ} 0 1 = cc in omega arith)

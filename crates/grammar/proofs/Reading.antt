@@ -1,10 +1,10 @@
 -- What it means that a parser reads a language.
-use Rattle.std.proofs.Common.{◌≡◌, ℕ, false, ◌⊎◌, List, [], ◌∷◌, ◌++◌}
+use Rattle.std.proofs.Common.{◌≡◌, ℕ, false, ◌⊎◌, List, [], ◌∷◌, ◌++◌, Ok, Err, Result}
 use Rattle.model.specs.declared.line.Line.{Line}
 use Rattle.grammar.specs.declared.symbol.Symbol.{Symbol}
 use Rattle.grammar.specs.declared.symbol.Symbol.TheVariants.{Digits}
-use Rattle.grammar.specs.declared.symbol.Tested.{Tested}
-use Rattle.grammar.specs.declared.symbol.Tested.TheVariants.{Fits as fits, Over as over, Wrong as wrong}
+use Rattle.grammar.specs.declared.refusal.Cause.{Cause}
+use Rattle.grammar.specs.declared.refusal.Cause.TheVariants.{Unexpected, Limit}
 use Rattle.grammar.specs.Axes.{names}
 use Rattle.grammar.specs.Prefixes.{Lang, IsDigits, Stuck, nothing, Again}
 use Rattle.grammar.specs.Combinators.{Parser, got, bad}
@@ -16,17 +16,19 @@ bindL {A} P Q ts b = (us : List Symbol) × (vs : List Symbol) × (a : A) × (ts 
 abbrev pub pure_l : {A : Type 0} → A → Lang A
 pure_l a ts b = (ts ≡ []) × (a ≡ b)
 
-abbrev pub oneL : {A : Type 0} → (Symbol → Tested A) → Lang A
-oneL f ts a = (t : Symbol) × (ts ≡ t ∷ []) × (f t ≡ fits a)
+abbrev pub oneL : {A : Type 0} → (Symbol → Result A Cause) → Lang A
+oneL f ts a = (t : Symbol) × (ts ≡ t ∷ []) × (f t ≡ Ok a)
 
-abbrev pub or_moreL : {A : Type 0} → Line → (Symbol → Tested A) → (A → Lang Line) → Lang Line
-or_moreL {A} l f Q ts b = ((ts ≡ []) × (l ≡ b)) ⊎ ((t : Symbol) × (vs : List Symbol) × (a : A) × (ts ≡ t ∷ vs) × (names l t ≡ false) × (f t ≡ fits a) × Q a vs b)
+abbrev pub or_moreL : {A : Type 0} → Line → (Symbol → Result A Cause) → (A → Lang Line) → Lang Line
+or_moreL {A} l f Q ts b = ((ts ≡ []) × (l ≡ b)) ⊎ ((t : Symbol) × (vs : List Symbol) × (a : A) × (ts ≡ t ∷ vs) × (names l t ≡ false) × (f t ≡ Ok a) × Q a vs b)
 
--- over is said of digits alone, just where other digits fit
-pub record Lawful {A : Type 0} (f : Symbol → Tested A) : Type 0 where
-  pub some : (t : Symbol) × (a : A) × (f t ≡ fits a)
-  pub limit : (t : Symbol) → f t ≡ over → IsDigits t × ((n : ℕ) × (a : A) × (f (Digits n) ≡ fits a))
-  pub not : (t : Symbol) → f t ≡ wrong → IsDigits t → (n : ℕ) (a : A) → f (Digits n) ≡ fits a → ⊥
+-- a limit is said of digits alone, just where other digits fit, and else a symbol is unexpected
+abbrev pub Why : {A : Type 0} → (Symbol → Result A Cause) → Symbol → Cause → Type 0
+Why {A} f t c = ((c ≡ Limit) × IsDigits t × ((n : ℕ) × (a : A) × (f (Digits n) ≡ Ok a))) ⊎ ((c ≡ Unexpected) × (IsDigits t → (n : ℕ) (a : A) → f (Digits n) ≡ Ok a → ⊥))
+
+pub record Lawful {A : Type 0} (f : Symbol → Result A Cause) : Type 0 where
+  pub some : (t : Symbol) × (a : A) × (f t ≡ Ok a)
+  pub refused : (t : Symbol) (c : Cause) → f t ≡ Err c → Why f t c
 
 -- the parser p reads the front of a row just if L has it, and refuses at the first symbol that nothing of L goes on with
 pub record Reads {A : Type 0} (L : Lang A) (p : Parser A) : Type 0 where

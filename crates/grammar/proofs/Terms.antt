@@ -1,5 +1,5 @@
 -- The parser of terms reads terms.
-use Rattle.std.proofs.Common.{◌≡◌, ℕ, ◌≤◌, ◌⊎◌, List, [], ◌∷◌, ◌++◌, pos, neg_ℤ, sym, refl, ap, ◌∙◌, subst, inl, inr, arith}
+use Rattle.std.proofs.Common.{◌≡◌, ℕ, ◌≤◌, ◌⊎◌, List, [], ◌∷◌, ◌++◌, pos, neg_ℤ, sym, refl, ap, ◌∙◌, subst, inl, inr, arith, Ok}
 use Rattle.model.specs.declared.expression.Term.{Term}
 use Rattle.model.specs.declared.expression.Term.TheVariants.{Number, Parameter as Held}
 use Rattle.grammar.specs.declared.symbol.Keyword.{Keyword}
@@ -11,7 +11,6 @@ use Rattle.grammar.specs.declared.symbol.TermStart.TheVariants.{Whole as whole, 
 use Rattle.grammar.specs.Prefixes.{Lang}
 use Rattle.grammar.specs.Grammar.{parameter_of, TermIs}
 use Rattle.grammar.specs.Grammar as is
-use Rattle.grammar.specs.declared.symbol.Tested.TheVariants.{Fits as fits}
 use Rattle.grammar.specs.Combinators.{bind, pure, expect}
 use Rattle.grammar.proofs.Reading.{Reads, bindL, pure_l, oneL}
 use Rattle.grammar.specs.Tests.{digits}
@@ -93,15 +92,15 @@ parts ts x (is.plus n h) = (Fixed Plus, Digits n ∷ [], plus, refl, inl (Plus, 
 parts ts x (is.minus n h) = (Fixed Minus, Digits n ∷ [], minus, refl, inl (Minus, refl, inr (inr (inl (refl, refl)))), digits_row 0 limit (λ n. Number (neg_ℤ (pos n))) n (omega arith) h)
 parts ts x (is.parameter n l h) = (Fixed Hash, Digits n ∷ [], hash, refl, inl (Hash, refl, inl (refl, refl)), digits_row 1 6 (λ n. Held (parameter_of n)) n l h)
 
-word_fits : (u : Keyword) (c : TermStart) → In term_words u c → term_first (Fixed u) ≡ fits c
-word_fits u c (inl i) = ap (λ w. term_first (Fixed w)) i.0 ∙ ap fits i.1
-word_fits u c (inr (inl i)) = ap (λ w. term_first (Fixed w)) i.0 ∙ ap fits i.1
-word_fits u c (inr (inr (inl i))) = ap (λ w. term_first (Fixed w)) i.0 ∙ ap fits i.1
+word_fits : (u : Keyword) (c : TermStart) → In term_words u c → term_first (Fixed u) ≡ Ok c
+word_fits u c (inl i) = ap (λ w. term_first (Fixed w)) i.0 ∙ ap Ok i.1
+word_fits u c (inr (inl i)) = ap (λ w. term_first (Fixed w)) i.0 ∙ ap Ok i.1
+word_fits u c (inr (inr (inl i))) = ap (λ w. term_first (Fixed w)) i.0 ∙ ap Ok i.1
 word_fits u c (inr (inr (inr i))) = absurd i
 
-begins_fits : (t : Symbol) (c : TermStart) → Begins t c → term_first t ≡ fits c
+begins_fits : (t : Symbol) (c : TermStart) → Begins t c → term_first t ≡ Ok c
 begins_fits t c (inl (u, e, i)) = ap term_first e ∙ word_fits u c i
-begins_fits t c (inr (n, e, l, h, i)) = ap term_first e ∙ upto_in 0 limit n (λ n. whole (Number (pos n))) l h ∙ ap fits i
+begins_fits t c (inr (n, e, l, h, i)) = ap term_first e ∙ upto_in 0 limit n (λ n. whole (Number (pos n))) l h ∙ ap Ok i
 
 term_from : (ts : List Symbol) (x : Term) → TermIs ts x → termL ts x
 term_from ts x h = let p = parts ts x h in (p.0 ∷ [], p.1, p.2, p.3, (p.0, refl, begins_fits p.0 p.2 p.4), p.5)

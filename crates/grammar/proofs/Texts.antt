@@ -1,5 +1,8 @@
 -- From rows of symbols to texts: what a text is answered is an answer by the grammar.
-use Rattle.std.proofs.Common.{◌≡◌, ℕ, zero, suc, ◌-◌, ◌<◌, ◌≤◌, Bool, true, false, cond, ◌&&◌, eqb, leb, List, [], ◌∷◌, ◌++◌, length, get_or, drop, sym, refl, ap, ◌∙◌, subst, arith, length-append}
+use Rattle.std.proofs.Common.{◌≡◌, ℕ, ◌-◌, ◌<◌, ◌≤◌, Bool, true, false, cond, ◌&&◌, eqb, leb, List, [], ◌∷◌, ◌++◌, length, get_or, drop, sym, refl, ap, ◌∙◌, subst, arith, length-append}
+use Rattle.std.proofs.lemmas.List.Sums.{prefix_len-le-length, prefix_len_is, prefix_len_passes, prefix_len_stops}
+use Rattle.std.proofs.lemmas.List.{length-map}
+use Rattle.std.proofs.Math.Seq.{drop-append_seam}
 use Rattle.std.proofs.lemmas.Bool.Decides.{nat_tests}
 use Rattle.std.proofs.lemmas.Bool.{eq-eqb}
 use Rattle.model.specs.declared.line.Line.{Line}
@@ -27,19 +30,11 @@ cut_back (t ∷ ts) (u ∷ us) rest e =
     let c = cut_back ts us rest r in
     (t ∷ c.0, c.1, ap (λ l. t ∷ l) c.2, (λ i. h i ∷ c.3 i), c.4)
 
-long : (ts : List Lexeme) → length (symbols ts) ≡ length ts
-long [] = refl
-long (t ∷ ts) = ap suc (long ts)
-
-drop_front : (xs ys : List Lexeme) → drop (length xs) (xs ++ ys) ≡ ys
-drop_front [] ys = refl
-drop_front (x ∷ xs) ys = drop_front xs ys
-
 -- what is left, by its length
 pub dropped : (ts xs ys : List Lexeme) (rest : List Symbol) → ts ≡ xs ++ ys → symbols ys ≡ rest → drop (length ts - length rest) ts ≡ ys
 dropped ts xs ys rest e f =
-    let n : length ts - length rest ≡ length xs = omega (arith, ap length e, length-append xs ys, ap length f, long ys) in
-    (λ i. drop (n i) (e i)) ∙ drop_front xs ys
+    let n : length ts - length rest ≡ length xs = omega (arith, ap length e, length-append xs ys, ap length f, length-map ys (λ (t : Lexeme). symbol_of t.bytes)) in
+    (λ i. drop (n i) (e i)) ∙ drop-append_seam xs ys
 
 read_not : {P : Type 0} {l : Line} {k p : ℕ} → read l ≡ refused k p → P
 read_not e = absurd (let z : ◌≡◌ {A = ℕ} 0 1 = cc in omega arith)
@@ -76,25 +71,16 @@ allowed_no b n =
     ] refl
 
 clear_all : (s : List ℕ) → ((i : ℕ) → i < length s → Allowed (get_or s i 0)) → clear s ≡ length s
-clear_all [] h = refl
-clear_all (b ∷ bs) h = ap (λ v. cond v (suc (clear bs)) 0) (allowed_yes b (h 0 (omega arith))) ∙ ap suc (clear_all bs (λ i l. h (suc i) (omega arith)))
+clear_all s h = prefix_len_is permitted s (length s) 0 (omega arith) (λ k l. allowed_yes _ (h k l)) (λ l. absurd (omega arith))
 
 pub clear_to : (s : List ℕ) (p : ℕ) → p < length s → (Allowed (get_or s p 0) → ⊥) → ((i : ℕ) → i < p → Allowed (get_or s i 0)) → clear s ≡ p
-clear_to [] p l n h = absurd (omega arith)
-clear_to (b ∷ bs) zero l n h = ap (λ v. cond v (suc (clear bs)) 0) (allowed_no b n)
-clear_to (b ∷ bs) (suc p) l n h = ap (λ v. cond v (suc (clear bs)) 0) (allowed_yes b (h 0 (omega arith))) ∙ ap suc (clear_to bs p (omega arith) n (λ i k. h (suc i) (omega arith)))
-
-goes_on : (v : Bool) (n m : ℕ) → cond v (suc n) 0 ≡ suc m → (v ≡ true) × (n ≡ m)
-goes_on true n m e = (refl, omega arith)
-goes_on false n m e = absurd (omega arith)
+clear_to s p l n h = prefix_len_is permitted s p 0 (omega arith) (λ k q. allowed_yes _ (h k q)) (λ q. allowed_no _ n)
 
 yes_allowed : (b : ℕ) → leb 32 b && leb b 126 ≡ true → Allowed b
 yes_allowed b e = (grind (arith, nat_tests), grind (arith, nat_tests))
 
 cleared : (s : List ℕ) → clear s ≡ length s → (i : ℕ) → i < length s → Allowed (get_or s i 0)
-cleared [] e i l = absurd (omega arith)
-cleared (b ∷ bs) e zero l = yes_allowed b (goes_on (leb 32 b && leb b 126) (clear bs) (length bs) e).0
-cleared (b ∷ bs) e (suc i) l = cleared bs (goes_on (leb 32 b && leb b 126) (clear bs) (length bs) e).1 i (omega arith)
+cleared s e i l = yes_allowed _ (prefix_len_passes permitted s i 0 (omega arith))
 
 -- ---- the two tests before the tokens
 pub clean_answer : (s : List ℕ) → Clean s → answer s ≡ reading s
@@ -123,28 +109,14 @@ reading_is s (got l rest) e c = accepted (lexemes s) l c (has_lexemes s) (lawful
 reading_is s (bad k rest) e c = stuck k _ c (refuses_at s k _ (bad k rest) e refl)
 
 first_spoilt : (s : List ℕ) → clear s < length s → (Allowed (get_or s (clear s) 0) → ⊥) × ((i : ℕ) → i < clear s → Allowed (get_or s i 0))
-first_spoilt [] h = absurd (omega arith)
-first_spoilt (b ∷ bs) h = go (leb 32 b && leb b 126) refl (first_spoilt bs) h
-  where
-    go : (v : Bool) → leb 32 b && leb b 126 ≡ v → (clear bs < length bs → (Allowed (get_or bs (clear bs) 0) → ⊥) × ((i : ℕ) → i < clear bs → Allowed (get_or bs i 0))) → cond v (suc (clear bs)) 0 < length (b ∷ bs) →
-        (Allowed (get_or (b ∷ bs) (cond v (suc (clear bs)) 0) 0) → ⊥) × ((i : ℕ) → i < cond v (suc (clear bs)) 0 → Allowed (get_or (b ∷ bs) i 0))
-    go true e more q = let m = more (omega arith) in (m.0, at e m.1)
-      where
-        at : leb 32 b && leb b 126 ≡ true → ((i : ℕ) → i < clear bs → Allowed (get_or bs i 0)) → (i : ℕ) → i < suc (clear bs) → Allowed (get_or (b ∷ bs) i 0)
-        at f below zero l = yes_allowed b f
-        at f below (suc i) l = below i (omega arith)
-    go false e more q = (λ a. true_false (allowed_yes b a) e, λ i l. absurd (omega arith))
-
-clear_within : (s : List ℕ) → clear s ≤ length s
-clear_within [] = omega arith
-clear_within (b ∷ bs) = elim (permitted b) as (λ v. cond v (suc (clear bs)) 0 ≤ length (b ∷ bs)) [ true ↦ omega (arith, clear_within bs) | false ↦ omega arith ]
+first_spoilt s h = (λ a. true_false (allowed_yes _ a) (prefix_len_stops permitted s 0 h), λ i l. yes_allowed _ (prefix_len_passes permitted s i 0 l))
 
 answer_is : (s : List ℕ) (t u : Bool) → leb (length s) 120 ≡ t → eqb (clear s) (length s) ≡ u → Answers s (cond t (cond u (reading s) (refused 12 (clear s))) (refused 11 120))
 answer_is s true true p q = reading_is s _ refl (let h : length s ≤ 120 = grind (arith, nat_tests) in h, cleared s (let h : clear s ≡ length s = grind (arith, nat_tests) in h))
 answer_is s true false p q =
     let short : length s ≤ 120 = grind (arith, nat_tests) in
     let apart : clear s ≡ length s → ⊥ = λ e. true_false (eq-eqb _ _ e) q in
-    let less : clear s < length s = let w = clear_within s in omega (arith, apart) in
+    let less : clear s < length s = let w : clear s ≤ length s = prefix_len-le-length permitted s in omega (arith, apart) in
     let f = first_spoilt s less in
     spoilt (clear s) (short, less, f.0, f.1)
 answer_is s false u p q = too_long (let h : 120 < length s = grind (arith, nat_tests) in h)

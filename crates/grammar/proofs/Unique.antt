@@ -1,5 +1,6 @@
 -- A text has one answer only: no two refusals fit it, and none fits a line.
 use Rattle.std.proofs.Common.{◌≡◌, ℕ, false, ◌⊎◌, List, [], ◌∷◌, ◌++◌, length, sym, refl, ap, ◌∙◌, subst, inl, inr, ⊎_elim, append_assoc, append-nil}
+use Rattle.std.proofs.lemmas.List.{map-append}
 use Rattle.lexer.specs.Lexemes.{Lexeme, lexemes}
 use Rattle.lexer.proofs.Lexemes.{only_lexemes}
 use Rattle.model.specs.declared.line.Line.{Line}
@@ -51,10 +52,6 @@ one_number : (k j : ℕ) (us ws : List Symbol) → Refused k ws (Follows LineIs 
 one_number k j us [] a b = a.0 ∙ sym b.0
 one_number k j us (t ∷ ws) a b = one_cause k j t (Follows LineIs us) (Again LineIs us) (named_apart us t) a.1 b.1
 
-symbols_++ : (xs ys : List Lexeme) → symbols (xs ++ ys) ≡ symbols xs ++ symbols ys
-symbols_++ [] ys = refl
-symbols_++ (x ∷ xs) ys = ap (λ l. symbol_of x.bytes ∷ l) (symbols_++ xs ys)
-
 -- ys is xs and at least one more
 Longer : List Lexeme → List Lexeme → List Lexeme → Type 0
 Longer xs ws ys = (w : Lexeme) × (ms : List Lexeme) × (rest : List Lexeme) × (ys ≡ xs ++ w ∷ ms) × (ws ≡ w ∷ rest)
@@ -76,7 +73,7 @@ two_cuts (u ∷ us) ws (v ∷ vs) zs e =
 not_longer : (k : ℕ) (us ws vs : List Lexeme) → Refused k (symbols ws) (Follows LineIs (symbols us)) (Ends LineIs (symbols us)) (Again LineIs (symbols us)) → Viable LineIs (symbols vs) → Longer us ws vs → ⊥
 unfolding Longer
 not_longer k us ws vs r (xs, l, is) (w, ms, rest, e, f) =
-    let row : symbols vs ++ xs ≡ symbols us ++ symbol_of w.bytes ∷ (symbols ms ++ xs) = ap (λ y. symbols y ++ xs) e ∙ ap (λ y. y ++ xs) (symbols_++ us (w ∷ ms)) ∙ append_assoc (symbols us) (symbol_of w.bytes ∷ symbols ms) xs in
+    let row : symbols vs ++ xs ≡ symbols us ++ symbol_of w.bytes ∷ (symbols ms ++ xs) = ap (λ y. symbols y ++ xs) e ∙ ap (λ y. y ++ xs) (map-append (λ (t : Lexeme). symbol_of t.bytes) us (w ∷ ms)) ∙ append_assoc (symbols us) (symbol_of w.bytes ∷ symbols ms) xs in
     (subst (λ y. Refused k (symbols y) (Follows LineIs (symbols us)) (Ends LineIs (symbols us)) (Again LineIs (symbols us))) f r).0 (symbols ms ++ xs, l, subst (λ y. LineIs y l) row is)
 
 one_refusal : (s : List ℕ) (k p j q : ℕ) → RefusedAt s k p → RefusedAt s j q → (k ≡ j) × (p ≡ q)
@@ -90,7 +87,7 @@ one_refusal s k p j q a b =
 
 -- a line is refused nowhere
 no_line : (s : List ℕ) (k p : ℕ) (l : Line) → RefusedAt s k p → LineIs (symbols (lexemes s)) l → ⊥
-no_line s k p l a is = go a.ws a.number (subst (λ y. LineIs y l) (ap symbols (sym (only_lexemes s (a.us ++ a.ws) a.tokens)) ∙ symbols_++ a.us a.ws) is)
+no_line s k p l a is = go a.ws a.number (subst (λ y. LineIs y l) (ap symbols (sym (only_lexemes s (a.us ++ a.ws) a.tokens)) ∙ map-append (λ (t : Lexeme). symbol_of t.bytes) a.us a.ws) is)
   where
     go : (ws : List Lexeme) → Refused k (symbols ws) (Follows LineIs (symbols a.us)) (Ends LineIs (symbols a.us)) (Again LineIs (symbols a.us)) → LineIs (symbols a.us ++ symbols ws) l → ⊥
     go [] r h = r.1 (l, subst (λ y. LineIs y l) (append-nil (symbols a.us)) h)

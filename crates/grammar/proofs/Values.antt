@@ -1,5 +1,5 @@
 -- The parsers of values and conditions read values and conditions.
-use Rattle.std.proofs.Common.{◌≡◌, ◌⊎◌, List, [], ◌∷◌, ◌++◌, pos, sym, refl, ap, ◌∙◌, subst, inl, inr, ⊎_elim, append-nil, arith}
+use Rattle.std.proofs.Common.{◌≡◌, ◌⊎◌, List, [], ◌∷◌, ◌++◌, pos, sym, refl, ap, ◌∙◌, subst, inl, inr, ⊎_elim, append-nil, arith, Ok}
 use Rattle.model.specs.declared.expression.Term.TheVariants.{Number}
 use Rattle.model.specs.declared.expression.Op.{Op}
 use Rattle.model.specs.declared.expression.Op.TheVariants.{Add, Sub, Mul}
@@ -16,7 +16,6 @@ use Rattle.grammar.specs.declared.symbol.ValueStart.TheVariants.{Opens as opens,
 use Rattle.grammar.specs.Prefixes.{Lang}
 use Rattle.grammar.specs.Grammar.{TermIs, OpIs, ValueIs, ConditionIs}
 use Rattle.grammar.specs.Grammar as is
-use Rattle.grammar.specs.declared.symbol.Tested.TheVariants.{Fits as fits}
 use Rattle.grammar.specs.Combinators.{expect}
 use Rattle.grammar.proofs.Reading.{Reads, bindL, pure_l, oneL}
 use Rattle.grammar.specs.Tests.{choose, only, relation}
@@ -44,7 +43,7 @@ value_restL (begins c) = plainL c
 abbrev valueL : Lang Value
 valueL = bindL (oneL value_first) value_restL
 
-pub reads_only : (w : Keyword) → choose ((w, w) ∷ []) w ≡ fits w → Reads (oneL (only w)) (expect (only w))
+pub reads_only : (w : Keyword) → choose ((w, w) ∷ []) w ≡ Ok w → Reads (oneL (only w)) (expect (only w))
 reads_only w e = reads_one (only w) (words_lawful ((w, w) ∷ []) w w e)
 
 bracket_reads : Reads bracketL bracket
@@ -64,7 +63,7 @@ op_word u o (inr (inl i)) = subst (λ p. OpIs (Fixed u) p) i.1 (subst (λ w. OpI
 op_word u o (inr (inr (inl i))) = subst (λ p. OpIs (Fixed u) p) i.1 (subst (λ w. OpIs (Fixed w) Mul) (sym i.0) is.mul)
 op_word u o (inr (inr (inr i))) = absurd i
 
-op_is : (t : Symbol) (o : Op) → operator t ≡ fits o → OpIs t o
+op_is : (t : Symbol) (o : Op) → operator t ≡ Ok o → OpIs t o
 op_is t o e = let d = words_is op_words t o e in subst (λ s. OpIs s o) (sym d.1) (op_word d.0 o d.2)
 
 bracket_to : (vs : List Symbol) (x : Value) → bracketL vs x → ValueIs (Fixed Open ∷ vs) x
@@ -85,7 +84,7 @@ starts_word u s (inr (inr (inl i))) = inr (plus, i.1, inr (inl (i.0, refl)))
 starts_word u s (inr (inr (inr (inl i)))) = inr (minus, i.1, inr (inr (inl (i.0, refl))))
 starts_word u s (inr (inr (inr (inr i)))) = absurd i
 
-starts : (t : Symbol) (s : ValueStart) → value_first t ≡ fits s → ((t ≡ Fixed Open) × (opens ≡ s)) ⊎ ((c : TermStart) × (begins c ≡ s) × Begins t c)
+starts : (t : Symbol) (s : ValueStart) → value_first t ≡ Ok s → ((t ≡ Fixed Open) × (opens ≡ s)) ⊎ ((c : TermStart) × (begins c ≡ s) × Begins t c)
 starts t s e =
     ⊎_elim
     (λ w. ⊎_elim (λ i. inl (w.1 ∙ ap Fixed i.0, i.1)) (λ i. inr (i.0, i.1, inl (w.0, w.1, i.2))) (starts_word w.0 s w.2))
@@ -101,17 +100,17 @@ value_to ts x (us, vs, s, e, (t, e1, h), r) =
     (starts t s h))
 
 -- ---- and back
-word_starts : (u : Keyword) (c : TermStart) → In term_words u c → value_first (Fixed u) ≡ fits (begins c)
-word_starts u c (inl i) = ap (λ w. value_first (Fixed w)) i.0 ∙ ap (λ d. fits (begins d)) i.1
-word_starts u c (inr (inl i)) = ap (λ w. value_first (Fixed w)) i.0 ∙ ap (λ d. fits (begins d)) i.1
-word_starts u c (inr (inr (inl i))) = ap (λ w. value_first (Fixed w)) i.0 ∙ ap (λ d. fits (begins d)) i.1
+word_starts : (u : Keyword) (c : TermStart) → In term_words u c → value_first (Fixed u) ≡ Ok (begins c)
+word_starts u c (inl i) = ap (λ w. value_first (Fixed w)) i.0 ∙ ap (λ d. Ok (begins d)) i.1
+word_starts u c (inr (inl i)) = ap (λ w. value_first (Fixed w)) i.0 ∙ ap (λ d. Ok (begins d)) i.1
+word_starts u c (inr (inr (inl i))) = ap (λ w. value_first (Fixed w)) i.0 ∙ ap (λ d. Ok (begins d)) i.1
 word_starts u c (inr (inr (inr i))) = absurd i
 
-begins_starts : (t : Symbol) (c : TermStart) → Begins t c → value_first t ≡ fits (begins c)
+begins_starts : (t : Symbol) (c : TermStart) → Begins t c → value_first t ≡ Ok (begins c)
 begins_starts t c (inl (u, e, i)) = ap value_first e ∙ word_starts u c i
-begins_starts t c (inr (n, e, l, h, i)) = ap value_first e ∙ upto_in 0 limit n (λ k. begins (whole (Number (pos k)))) l h ∙ ap (λ d. fits (begins d)) i
+begins_starts t c (inr (n, e, l, h, i)) = ap value_first e ∙ upto_in 0 limit n (λ k. begins (whole (Number (pos k)))) l h ∙ ap (λ d. Ok (begins d)) i
 
-op_from : (t : Symbol) (o : Op) → OpIs t o → operator t ≡ fits o
+op_from : (t : Symbol) (o : Op) → OpIs t o → operator t ≡ Ok o
 op_from t o is.add = refl
 op_from t o is.sub = refl
 op_from t o is.mul = refl

@@ -1,5 +1,5 @@
 -- The parser of lines reads the grammar's lines, no more and no less.
-use Rattle.std.proofs.Common.{◌≡◌, ℕ, ◌≤◌, List, [], ◌∷◌, ◌++◌, sym, refl, ap, ◌∙◌, subst, inl, inr, append-nil, arith}
+use Rattle.std.proofs.Common.{◌≡◌, ℕ, ◌≤◌, List, [], ◌∷◌, ◌++◌, sym, refl, ap, ◌∙◌, subst, inl, inr, append-nil, arith, Ok}
 use Rattle.model.specs.declared.line.Line.{Line}
 use Rattle.model.specs.declared.line.Line.TheVariants.{Plain, Setting, While as WhileLine, If as IfLine, EndIf as EndIfLine, EndWhile as EndWhileLine}
 use Rattle.grammar.specs.declared.symbol.Keyword.{Keyword}
@@ -13,7 +13,6 @@ use Rattle.grammar.specs.declared.symbol.LineStart.TheVariants.{Setting as setti
 use Rattle.grammar.specs.Prefixes.{Lang}
 use Rattle.grammar.specs.Grammar.{parameter_of, ValueIs, ConditionIs, LineIs}
 use Rattle.grammar.specs.Grammar as is
-use Rattle.grammar.specs.declared.symbol.Tested.TheVariants.{Fits as fits}
 use Rattle.grammar.proofs.Reading.{bindL, oneL, pure_l, or_moreL, Lines}
 use Rattle.grammar.specs.Tests.{digits, only}
 use Rattle.grammar.specs.Parser.{setting, block_word, block_rest, block, line_first, line_rest, line}
@@ -21,7 +20,7 @@ use Rattle.grammar.specs.Axes.{motion_of, moved}
 use Rattle.grammar.proofs.Lines.{lines_bind, lines_same}
 use Rattle.grammar.proofs.Ones.{reads_one}
 use Rattle.grammar.proofs.Mores.{lines_end, lines_more}
-use Rattle.grammar.proofs.Meets.{In, wrong_fits, upto_in, digits_is, only_is, words_lawful, words_is, words_over}
+use Rattle.grammar.proofs.Meets.{In, err_ok, upto_in, digits_is, only_is, words_lawful, words_is, words_wrong}
 use Rattle.grammar.proofs.Terms.{reads_digits}
 use Rattle.grammar.proofs.Values.{reads_only, reads_value, reads_condition}
 use Rattle.grammar.proofs.Moves.{moveL, move_lines, move_to, move_from}
@@ -110,7 +109,7 @@ line_rest_lines move' = move_lines
 line_rest_lines block' = block_lines
 
 line_lines : Lines lineL line
-line_lines = lines_more Plain line_first line_restL line_rest (λ t k n h. line_rest_lines k) (λ t e. words_over line_words t e) (λ n k e. wrong_fits e)
+line_lines = lines_more Plain line_first line_restL line_rest (λ t k n h. line_rest_lines k) (λ t c e. words_wrong line_words t c e) (λ n k e. err_ok e)
 
 line_at : (k : LineStart) (u : Keyword) → In line_words u k → (vs : List Symbol) (b : Line) → line_restL k vs b → LineIs (Fixed u ∷ vs) b
 line_at k u (inl i) vs b r = subst (λ w. LineIs (Fixed w ∷ vs) b) (sym i.0) (setting_to vs b (subst (λ x. line_restL x vs b) (sym i.1) r))
@@ -126,7 +125,7 @@ line_to ts b (inr (t, vs, k, e, n, h, r)) =
     let d = words_is line_words t k h in
     subst (λ x. LineIs x b) (sym (e ∙ ap (λ c. c ∷ vs) d.1)) (line_at k d.0 d.2 vs b r)
 
-labelled : (n : ℕ) (u : Keyword) (w : BlockWord) (vs : List Symbol) (b : Line) → 1 ≤ n → n ≤ 9999 → block_word (Fixed u) ≡ fits w → block_restL n w vs b → lineL (Fixed O ∷ Digits n ∷ Fixed u ∷ vs) b
+labelled : (n : ℕ) (u : Keyword) (w : BlockWord) (vs : List Symbol) (b : Line) → 1 ≤ n → n ≤ 9999 → block_word (Fixed u) ≡ Ok w → block_restL n w vs b → lineL (Fixed O ∷ Digits n ∷ Fixed u ∷ vs) b
 labelled n u w vs b l h e r =
     inr (Fixed O, Digits n ∷ Fixed u ∷ vs, block', refl, refl, refl, (Digits n ∷ [], Fixed u ∷ vs, n, refl, (Digits n, refl, upto_in 1 9999 n (λ m. m) l h), (Fixed u ∷ [], vs, w, refl, (Fixed u, refl, e), r)))
 

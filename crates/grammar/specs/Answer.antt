@@ -1,12 +1,12 @@
 -- What a text is answered: the line that it is, or the number of its refusal with a place in the text.
 -- A text of more than 120 bytes is refused with 11 at 120, one with a byte that is not from 32 to 126 with 12 at the first
 -- such byte; any other is read symbol by symbol. The law of this answer, in the grammar's words, is in Law.
-use Rattle.std.specs.Prelude.{ℕ, suc, ◌-◌, Bool, cond, ◌&&◌, List, [], ◌∷◌, length, drop, Ok, Err, Result, ◌==◌, nat_le}
+use Rattle.std.specs.Prelude.{ℕ, ◌-◌, Bool, cond, ◌&&◌, List, [], ◌∷◌, length, drop, Ok, Err, Result, ◌==◌, nat_le}
+use Rattle.std.specs.List.{prefix_len}
 use Rattle.lexer.specs.Lexemes.{Lexeme, lexemes}
 use Rattle.model.specs.declared.line.Line.{Line}
-use Rattle.grammar.specs.declared.refusal.Cause.{Cause}
-use Rattle.grammar.specs.declared.refusal.Cause.TheVariants.{Length, Byte, Unexpected, Limit, Twice}
 use Rattle.grammar.specs.declared.refusal.Refusal.{Refusal}
+use Rattle.grammar.specs.Causes.{number_of}
 use Rattle.grammar.specs.Combinators.{Parsed, got, bad}
 use Rattle.grammar.specs.Parser.{line}
 use Rattle.grammar.specs.Symbols.{symbols}
@@ -14,14 +14,6 @@ use Rattle.grammar.specs.Symbols.{symbols}
 pub data Answer : Type 0 where
   read : Line → Answer
   refused : ℕ → ℕ → Answer
-
--- the number of each cause
-abbrev pub number_of : Cause → ℕ
-number_of Length = 11
-number_of Byte = 12
-number_of Unexpected = 13
-number_of Limit = 14
-number_of Twice = 15
 
 -- a result of the code, as an answer
 abbrev pub said : Result Line Refusal → Answer
@@ -47,8 +39,7 @@ permitted b = nat_le 32 b && nat_le b 126
 
 -- how many bytes at the front are permitted
 abbrev pub clear : List ℕ → ℕ
-clear [] = 0
-clear (b ∷ bs) = cond (permitted b) (suc (clear bs)) 0
+clear s = prefix_len permitted s
 
 abbrev pub answer : List ℕ → Answer
 answer s = cond (nat_le (length s) 120) (cond (clear s == length s) (reading s) (refused 12 (clear s))) (refused 11 120)

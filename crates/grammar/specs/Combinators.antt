@@ -1,9 +1,9 @@
 -- Parsers on rows of symbols, put together from three parts: one symbol, one parser after another, and the end of a line.
-use Rattle.std.specs.Prelude.{ℕ, cond, List, [], ◌∷◌}
+use Rattle.std.specs.Prelude.{ℕ, cond, List, [], ◌∷◌, Ok, Err, Result}
 use Rattle.model.specs.declared.line.Line.{Line}
 use Rattle.grammar.specs.declared.symbol.Symbol.{Symbol}
-use Rattle.grammar.specs.declared.symbol.Tested.{Tested}
-use Rattle.grammar.specs.declared.symbol.Tested.TheVariants.{Fits as fits, Over as over, Wrong as wrong}
+use Rattle.grammar.specs.declared.refusal.Cause.{Cause}
+use Rattle.grammar.specs.Causes.{number_of}
 use Rattle.grammar.specs.Axes.{names}
 
 -- what was read with what is left, or the number of the refusal with what it is refused at
@@ -25,13 +25,12 @@ bind p q ts = after (p ts) q
 abbrev pub pure : {A : Type 0} → A → Parser A
 pure a ts = got a ts
 
-abbrev pub tested : {A : Type 0} → Tested A → Symbol → List Symbol → Parsed A
-tested (fits a) t ts = got a ts
-tested over t ts = bad 14 (t ∷ ts)
-tested wrong t ts = bad 13 (t ∷ ts)
+abbrev pub tested : {A : Type 0} → Result A Cause → Symbol → List Symbol → Parsed A
+tested (Ok a) t ts = got a ts
+tested (Err c) t ts = bad (number_of c) (t ∷ ts)
 
 -- one symbol that passes the test f
-abbrev pub expect : {A : Type 0} → (Symbol → Tested A) → Parser A
+abbrev pub expect : {A : Type 0} → (Symbol → Result A Cause) → Parser A
 expect f [] = bad 13 []
 expect f (t ∷ ts) = tested (f t) t ts
 
@@ -41,6 +40,6 @@ ends l [] = got l []
 ends l (t ∷ ts) = bad 13 (t ∷ ts)
 
 -- the end of the line l, or a symbol that l has not named and that passes the test f, and then q
-abbrev pub or_more : {A : Type 0} → Line → (Symbol → Tested A) → (A → Parser Line) → Parser Line
+abbrev pub or_more : {A : Type 0} → Line → (Symbol → Result A Cause) → (A → Parser Line) → Parser Line
 or_more l f q [] = got l []
 or_more l f q (t ∷ ts) = cond (names l t) (bad 15 (t ∷ ts)) (after (tested (f t) t ts) q)

@@ -1,5 +1,5 @@
 -- How a line is read, symbol by symbol, from left to right. That this reads the grammar, no more and no less, is the law.
-use Rattle.std.specs.Prelude.{ℕ, zero, suc, ◌-◌, List, [], ◌∷◌, pos, neg_ℤ}
+use Rattle.std.specs.Prelude.{ℕ, zero, suc, ◌-◌, List, [], ◌∷◌, pos, neg_ℤ, Result}
 use Rattle.model.specs.declared.expression.Term.{Term}
 use Rattle.model.specs.declared.expression.Term.TheVariants.{Number, Parameter as Held}
 use Rattle.model.specs.declared.expression.Op.{Op}
@@ -25,7 +25,7 @@ use Rattle.grammar.specs.declared.symbol.LineStart.{LineStart}
 use Rattle.grammar.specs.declared.symbol.LineStart.TheVariants.{Setting as setting', Move as move', Block as block'}
 use Rattle.grammar.specs.Axes.{put, no_values, count, motion_of, moved}
 use Rattle.grammar.specs.Grammar.{parameter_of, bare, applied}
-use Rattle.grammar.specs.declared.symbol.Tested.{Tested}
+use Rattle.grammar.specs.declared.refusal.Cause.{Cause}
 use Rattle.grammar.specs.Combinators.{Parser, bad, bind, pure, expect, ends, or_more}
 use Rattle.grammar.specs.Tests.{words, mixed, digits, only, axis, relation}
 use Rattle.model.specs.Limits.{limit}
@@ -34,7 +34,7 @@ use Rattle.model.specs.Limits.{limit}
 abbrev pub term_words : List (Keyword × TermStart)
 term_words = (Hash, hash) ∷ (Plus, plus) ∷ (Minus, minus) ∷ []
 
-abbrev pub term_first : Symbol → Tested TermStart
+abbrev pub term_first : Symbol → Result TermStart Cause
 term_first = mixed term_words 0 limit (λ n. whole (Number (pos n)))
 
 abbrev pub term_rest : TermStart → Parser Term
@@ -50,10 +50,10 @@ term = bind (expect term_first) term_rest
 abbrev pub value_words : List (Keyword × ValueStart)
 value_words = (Open, opens) ∷ (Hash, begins hash) ∷ (Plus, begins plus) ∷ (Minus, begins minus) ∷ []
 
-abbrev pub value_first : Symbol → Tested ValueStart
+abbrev pub value_first : Symbol → Result ValueStart Cause
 value_first = mixed value_words 0 limit (λ n. begins (whole (Number (pos n))))
 
-abbrev pub operator : Symbol → Tested Op
+abbrev pub operator : Symbol → Result Op Cause
 operator = words ((Plus, Add) ∷ (Minus, Sub) ∷ (Star, Mul) ∷ [])
 
 abbrev pub after_second : Term → Op → Term → Parser Value
@@ -119,7 +119,7 @@ abbrev pub move : Parser Line
 move = bind (expect (digits 0 1)) after_g
 
 -- ---- block lines
-abbrev pub block_word : Symbol → Tested BlockWord
+abbrev pub block_word : Symbol → Result BlockWord Cause
 block_word = words ((While, while) ∷ (If, if) ∷ (EndIf, endif) ∷ (EndWhile, endwhile) ∷ [])
 
 abbrev pub block_rest : ℕ → BlockWord → Parser Line
@@ -135,7 +135,7 @@ abbrev pub block : Parser Line
 block = bind (expect (digits 1 9999)) after_label
 
 -- ---- lines
-abbrev pub line_first : Symbol → Tested LineStart
+abbrev pub line_first : Symbol → Result LineStart Cause
 line_first = words ((Hash, setting') ∷ (G, move') ∷ (O, block') ∷ [])
 
 abbrev pub line_rest : LineStart → Parser Line

@@ -1,6 +1,6 @@
 // Why and where a text is no line.
 ghost use Rattle.std.specs.Prelude.{◌≡◌};
-ghost use Rattle.grammar.specs.Answer.{number_of};
+ghost use Rattle.grammar.specs.Causes.{number_of};
 
 #[derive(Clone, Copy)]
 pub enum Cause {
@@ -17,6 +17,7 @@ pub enum Cause {
 }
 
 impl Cause {
+    // The number by which the refusal is printed; u32::from would not say which number it gives.
     pub fn number(self) -> u32
         ensures { result ≡ number_of self }
     {

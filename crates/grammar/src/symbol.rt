@@ -3,7 +3,7 @@ use model::expression::{Rel, Term};
 use model::line::Axis;
 
 // The tokens that the grammar spells out.
-#[derive(Clone, Copy)]
+#[derive(Clone, Copy, PartialEq, Eq)]
 pub enum Keyword {
     Hash,
     Open,
@@ -37,14 +37,6 @@ pub enum Symbol {
 pub struct Item {
     pub place: usize,
     pub symbol: Option<Symbol>,
-}
-
-// What a symbol is where it stands: one that fits, a number out of bounds, or another.
-#[derive(Clone, Copy)]
-pub enum Tested<A> {
-    Fits(A),
-    Over,
-    Wrong,
 }
 
 #[derive(Clone, Copy)]

@@ -1,5 +1,5 @@
--- The bytes of a token: at least one, and where the first is a digit, digits only.
-use Rattle.std.proofs.Common.{◌≡◌, ℕ, suc, ◌<◌, ◌≤◌, Bool, true, false, cond, ◌&&◌, ◌||◌, eqb, leb, List, [], ◌∷◌, length, get_or, take, drop, sym, refl, ap, ◌∙◌, subst, arith, length-drop, length-take-le, get_or-take, Bor}
+-- The bytes of a token: where the first is a digit, digits only.
+use Rattle.std.proofs.Common.{◌≡◌, ℕ, suc, ◌<◌, ◌≤◌, Bool, true, false, cond, ◌&&◌, ◌||◌, eqb, leb, List, [], ◌∷◌, length, get_or, take, drop, sym, refl, ap, ◌∙◌, subst, arith, length-drop, get_or-take, Bor}
 use Rattle.std.proofs.lemmas.Bool.Decides.{nat_tests}
 use Rattle.std.proofs.lemmas.Str.{digit_value_digit}
 use Rattle.std.specs.Char.{digit_value as digitValue}
@@ -8,7 +8,7 @@ use Rattle.lexer.specs.declared.class.Class.TheVariants.{Letter, Digit, Mark, Bl
 use Rattle.lexer.specs.declared.token.Token.{Token}
 use Rattle.lexer.specs.Classes.{class, same, run}
 use Rattle.lexer.specs.Parts.{size, size_by, Found}
-use Rattle.lexer.proofs.Heads.{size_some}
+use Rattle.lexer.proofs.Heads.{run_step, size_some}
 
 by_digit : (p q r : Bool) → same (cond p Letter (cond q Digit (cond r Blank Mark))) Digit ≡ true → q ≡ true
 by_digit true q r e = absurd (let z : ◌≡◌ {A = ℕ} 0 1 = cc in omega arith)
@@ -26,10 +26,10 @@ digit_value b e =
 run_digits : (s : List ℕ) → AllDigits 10 (take (run Digit s) s)
 run_digits [] = tt
 run_digits (b ∷ bs) =
-    elim (same (class b) Digit) as (λ v. same (class b) Digit ≡ v → AllDigits 10 (take (cond v (suc (run Digit bs)) 0) (b ∷ bs))) [
+    subst (λ n. AllDigits 10 (take n (b ∷ bs))) (sym (run_step Digit b bs)) (elim (same (class b) Digit) as (λ v. same (class b) Digit ≡ v → AllDigits 10 (take (cond v (suc (run Digit bs)) 0) (b ∷ bs))) [
       | true ↦ λ e. (digit_value b e, run_digits bs)
       | false ↦ λ e. tt
-    ] refl
+    ] refl)
 
 some : (s : List ℕ) → 0 < length s → 1 ≤ size s
 some [] h = absurd (omega arith)
@@ -45,11 +45,6 @@ digits_only s h e =
 module _ (text : Bor (List ℕ)) (n m : ℕ) (t : Token) (f : Found text n t m) where
   rest_some : 0 < length (drop t.place text.now)
   rest_some = omega (arith, length-drop t.place text.now, f.some)
-
-  pub token_some : 1 ≤ length t.part.now
-  token_some =
-      let q = drop t.place text.now in
-      omega (arith, ap length f.part.bytes, length-take-le (size q) q (omega (arith, f.after, f.within, length-drop t.place text.now)), some q rest_some)
 
   pub token_digits : class (get_or t.part.now 0 0) ≡ Digit → AllDigits 10 t.part.now
   token_digits e = subst (λ l. AllDigits 10 l) (sym f.part.bytes) (digits_only (drop t.place text.now) rest_some (ap (λ l. class (get_or l 0 0)) (sym f.part.bytes) ∙ e))

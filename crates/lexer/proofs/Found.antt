@@ -31,9 +31,6 @@ module _ (text : Bor (List ℕ)) (at k : ℕ) (r : List ℕ) (q : Bor (List ℕ)
   rest_long : (part rest : Bor (List ℕ)) → Cut q (Some (part, rest)) → length rest.now ≡ length q.now - size q.now
   rest_long part rest h = ap length (h.1.bytes ∙ rest_is q.now (size q.now)) ∙ length-drop (size q.now) q.now
 
-  pub shorter : (part rest : Bor (List ℕ)) → Cut q (Some (part, rest)) → length rest.now ≤ length text.now
-  shorter part rest h = omega (arith, rest_long part rest h, q_long)
-
   pub found : (part rest : Bor (List ℕ)) → Cut q (Some (part, rest)) → Found text at (record { place = at + k; part = part }) (length text.now - length rest.now)
   found part rest h =
       let sizes : size q.now ≡ size (drop (at + k) text.now) = ap size q_now in

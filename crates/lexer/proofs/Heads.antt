@@ -13,17 +13,21 @@ skip zero p s h = ap (λ m. lexemes_from 0 m s) (omega arith)
 skip (suc n) p [] h = absurd (omega arith)
 skip (suc n) p (b ∷ bs) h = skip n (p + 1) bs (omega arith) ∙ ap (λ m. lexemes_from 0 m (drop n bs)) (omega arith)
 
+-- how far a run at the front goes, by its first byte
+pub run_step : (k : Class) (b : ℕ) (bs : List ℕ) → run k (b ∷ bs) ≡ cond (same (class b) k) (suc (run k bs)) 0
+run_step k b bs = ap (λ n. cond (same (class b) k) n 0) (omega arith)
+
 blanks : (p : ℕ) (s : List ℕ) → lexemes_from 0 p s ≡ lexemes_from 0 (p + run Blank s) (drop (run Blank s) s)
 blanks p [] = refl
 blanks p (b ∷ bs) =
-    elim (same (class b) Blank) as (λ v. same (class b) Blank ≡ v → lexemes_from 0 p (b ∷ bs) ≡ lexemes_from 0 (p + cond v (suc (run Blank bs)) 0) (drop (cond v (suc (run Blank bs)) 0) (b ∷ bs))) [
+    subst (λ n. lexemes_from 0 p (b ∷ bs) ≡ lexemes_from 0 (p + n) (drop n (b ∷ bs))) (sym (run_step Blank b bs)) (elim (same (class b) Blank) as (λ v. same (class b) Blank ≡ v → lexemes_from 0 p (b ∷ bs) ≡ lexemes_from 0 (p + cond v (suc (run Blank bs)) 0) (drop (cond v (suc (run Blank bs)) 0) (b ∷ bs))) [
       | true ↦ λ e. ap (λ v. cond v (lexemes_from 0 (p + 1) bs) (record { place = p; bytes = take (size (b ∷ bs)) (b ∷ bs) } ∷ lexemes_from (size (b ∷ bs) - 1) (p + 1) bs)) e ∙ blanks (p + 1) bs ∙ ap (λ m. lexemes_from 0 m (drop (run Blank bs) bs)) (omega arith)
       | false ↦ λ e. ap (λ m. lexemes_from 0 m (b ∷ bs)) (omega arith)
-    ] refl
+    ] refl)
 
 pub size_some : (b : ℕ) (bs : List ℕ) (k : Class) → class b ≡ k → 1 ≤ size_by k (b ∷ bs)
-size_some b bs Letter e = let r : run Letter (b ∷ bs) ≡ suc (run Letter bs) = ap (λ c. cond (same c Letter) (suc (run Letter bs)) 0) e in omega arith
-size_some b bs Digit e = let r : run Digit (b ∷ bs) ≡ suc (run Digit bs) = ap (λ c. cond (same c Digit) (suc (run Digit bs)) 0) e in omega arith
+size_some b bs Letter e = let r : run Letter (b ∷ bs) ≡ suc (run Letter bs) = run_step Letter b bs ∙ ap (λ c. cond (same c Letter) (suc (run Letter bs)) 0) e in omega arith
+size_some b bs Digit e = let r : run Digit (b ∷ bs) ≡ suc (run Digit bs) = run_step Digit b bs ∙ ap (λ c. cond (same c Digit) (suc (run Digit bs)) 0) e in omega arith
 size_some b bs Mark e = omega arith
 size_some b bs Blank e = omega arith
 
@@ -40,10 +44,10 @@ one p (b ∷ bs) h w e =
 past : (s : List ℕ) → run Blank s < length s → same (class (get_or (drop (run Blank s) s) 0 0)) Blank ≡ false
 past [] h = absurd (omega arith)
 past (b ∷ bs) h =
-    elim (same (class b) Blank) as (λ v. same (class b) Blank ≡ v → cond v (suc (run Blank bs)) 0 < length (b ∷ bs) → same (class (get_or (drop (cond v (suc (run Blank bs)) 0) (b ∷ bs)) 0 0)) Blank ≡ false) [
+    subst (λ n. n < length (b ∷ bs) → same (class (get_or (drop n (b ∷ bs)) 0 0)) Blank ≡ false) (sym (run_step Blank b bs)) (elim (same (class b) Blank) as (λ v. same (class b) Blank ≡ v → cond v (suc (run Blank bs)) 0 < length (b ∷ bs) → same (class (get_or (drop (cond v (suc (run Blank bs)) 0) (b ∷ bs)) 0 0)) Blank ≡ false) [
       | true ↦ λ e h. past bs (omega arith)
       | false ↦ λ e h. e
-    ] refl h
+    ] refl) h
 
 -- what `Found` says, on the list of tokens
 pub found_heads : (text : Bor (List ℕ)) (n : ℕ) (t : Token) (m : ℕ) → n ≤ length text.now → Found text n t m → lexemes_from 0 n (drop n text.now) ≡ record { place = t.place; bytes = t.part.now } ∷ lexemes_from 0 m (drop m text.now)

@@ -1,13 +1,16 @@
 -- Each text has its tokens, and no others.
-use Rattle.std.proofs.Common.{◌≡◌, ℕ, zero, suc, ◌+◌, ◌-◌, ◌<◌, ◌≤◌, Bool, true, false, cond, List, [], ◌∷◌, ◌++◌, length, get_or, take, drop, sym, refl, ap, ◌∙◌, subst, true≢false, arith, length-append, length-drop}
+use Rattle.std.proofs.Common.{◌≡◌, ℕ, zero, suc, ◌+◌, ◌-◌, ◌<◌, ◌≤◌, Bool, true, false, cond, List, [], ◌∷◌, ◌++◌, length, get_or, take, drop, sym, refl, ap, ◌∙◌, subst, true≢false, arith, rules, length-append, length-drop}
+use denote.Enum.Bare.{same_true}
+use Rattle.lexer.specs.contracts.class.Class.{the_type}
 use Rattle.std.specs.List.{AllByRecursion}
-use Rattle.std.proofs.lemmas.List.{take_at, drop_at}
+use Rattle.std.proofs.lemmas.List.Sums.{prefix_len-le-length}
+use Rattle.std.proofs.lemmas.List.{take_at, drop_at, take-append-drop, length-take-le}
 use Rattle.lexer.specs.declared.class.Class.{Class}
 use Rattle.lexer.specs.declared.class.Class.TheVariants.{Letter, Digit, Blank, Mark}
 use Rattle.lexer.specs.Classes.{class, same, run}
 use Rattle.lexer.specs.Parts.{size, size_by}
 use Rattle.lexer.specs.Lexemes.{Lexeme, Stops, IsToken, letters, digits, mark, LexemesAre, none, blank, token, lexemes_from, lexemes}
-use Rattle.lexer.proofs.Heads.{size_some, one}
+use Rattle.lexer.proofs.Heads.{run_step, size_some, one}
 
 same_refl : (k : Class) → same k k ≡ true
 same_refl Letter = refl
@@ -16,72 +19,43 @@ same_refl Blank = refl
 same_refl Mark = refl
 
 is_class : (j k : Class) → same j k ≡ true → j ≡ k
-is_class Letter Letter e = refl
-is_class Letter Digit e = absurd (true≢false (sym e))
-is_class Letter Blank e = absurd (true≢false (sym e))
-is_class Letter Mark e = absurd (true≢false (sym e))
-is_class Digit Letter e = absurd (true≢false (sym e))
-is_class Digit Digit e = refl
-is_class Digit Blank e = absurd (true≢false (sym e))
-is_class Digit Mark e = absurd (true≢false (sym e))
-is_class Blank Letter e = absurd (true≢false (sym e))
-is_class Blank Digit e = absurd (true≢false (sym e))
-is_class Blank Blank e = refl
-is_class Blank Mark e = absurd (true≢false (sym e))
-is_class Mark Letter e = absurd (true≢false (sym e))
-is_class Mark Digit e = absurd (true≢false (sym e))
-is_class Mark Blank e = absurd (true≢false (sym e))
-is_class Mark Mark e = refl
+is_class j k e = same_true the_type (search rules) j k e
 
 differ : (j k : Class) → (j ≡ k → ⊥) → same j k ≡ false
 differ j k h = elim (same j k) as (λ v. same j k ≡ v → v ≡ false) [ true ↦ λ e. absurd (h (is_class j k e)) | false ↦ λ e. refl ] refl
 
 -- ---- a run at the front of a text
-run_within : (k : Class) (s : List ℕ) → run k s ≤ length s
-run_within k [] = omega arith
-run_within k (b ∷ bs) = elim (same (class b) k) as (λ v. cond v (suc (run k bs)) 0 ≤ length (b ∷ bs)) [ true ↦ omega (arith, run_within k bs) | false ↦ omega arith ]
-
 run_all : (k : Class) (s : List ℕ) → AllByRecursion (λ c. class c ≡ k) (take (run k s) s)
 run_all k [] = tt
 run_all k (b ∷ bs) =
-    elim (same (class b) k) as (λ v. same (class b) k ≡ v → AllByRecursion (λ c. class c ≡ k) (take (cond v (suc (run k bs)) 0) (b ∷ bs))) [
+    subst (λ n. AllByRecursion (λ c. class c ≡ k) (take n (b ∷ bs))) (sym (run_step k b bs)) (elim (same (class b) k) as (λ v. same (class b) k ≡ v → AllByRecursion (λ c. class c ≡ k) (take (cond v (suc (run k bs)) 0) (b ∷ bs))) [
       | true ↦ λ e. (is_class (class b) k e, run_all k bs)
       | false ↦ λ e. tt
-    ] refl
+    ] refl)
 
 run_stops : (k : Class) (s : List ℕ) → Stops k (drop (run k s) s)
 run_stops k [] = tt
 run_stops k (b ∷ bs) =
-    elim (same (class b) k) as (λ v. same (class b) k ≡ v → Stops k (drop (cond v (suc (run k bs)) 0) (b ∷ bs))) [
+    subst (λ n. Stops k (drop n (b ∷ bs))) (sym (run_step k b bs)) (elim (same (class b) k) as (λ v. same (class b) k ≡ v → Stops k (drop (cond v (suc (run k bs)) 0) (b ∷ bs))) [
       | true ↦ λ e. run_stops k bs
       | false ↦ λ e h. true≢false (sym (ap (λ j. same j k) h ∙ same_refl k) ∙ e)
-    ] refl
+    ] refl)
 
 -- a run that stops is as long as it is
 run_whole : (k : Class) (t s : List ℕ) → AllByRecursion (λ c. class c ≡ k) t → Stops k s → run k (t ++ s) ≡ length t
 run_whole k [] [] a h = refl
-run_whole k [] (b ∷ s) a h = ap (λ v. cond v (suc (run k s)) 0) (differ (class b) k h)
-run_whole k (b ∷ t) s (e, a) h = ap (λ v. cond v (suc (run k (t ++ s))) 0) (ap (λ j. same j k) e ∙ same_refl k) ∙ ap suc (run_whole k t s a h)
+run_whole k [] (b ∷ s) a h = run_step k b s ∙ ap (λ v. cond v (suc (run k s)) 0) (differ (class b) k h)
+run_whole k (b ∷ t) s (e, a) h = run_step k b (t ++ s) ∙ ap (λ v. cond v (suc (run k (t ++ s))) 0) (ap (λ j. same j k) e ∙ same_refl k) ∙ ap suc (run_whole k t s a h)
 
 -- ---- each text has its tokens
-split : (n : ℕ) (s : List ℕ) → n ≤ length s → take n s ++ drop n s ≡ s
-split zero s h = refl
-split (suc n) [] h = absurd (omega arith)
-split (suc n) (b ∷ bs) h = ap (λ l. b ∷ l) (split n bs (omega arith))
-
-taken : (n : ℕ) (s : List ℕ) → n ≤ length s → length (take n s) ≡ n
-taken zero s h = refl
-taken (suc n) [] h = absurd (omega arith)
-taken (suc n) (b ∷ bs) h = ap suc (taken n bs (omega arith))
-
 size_within : (b : ℕ) (bs : List ℕ) (k : Class) → class b ≡ k → size_by k (b ∷ bs) ≤ length (b ∷ bs)
-size_within b bs Letter e = run_within Letter (b ∷ bs)
-size_within b bs Digit e = run_within Digit (b ∷ bs)
+size_within b bs Letter e = prefix_len-le-length (λ c. same (class c) Letter) (b ∷ bs)
+size_within b bs Digit e = prefix_len-le-length (λ c. same (class c) Digit) (b ∷ bs)
 size_within b bs Blank e = omega arith
 size_within b bs Mark e = omega arith
 
 run_cons : (k : Class) (b : ℕ) (bs : List ℕ) → class b ≡ k → run k (b ∷ bs) ≡ suc (run k bs)
-run_cons k b bs e = ap (λ v. cond v (suc (run k bs)) 0) (ap (λ j. same j k) e ∙ same_refl k)
+run_cons k b bs e = run_step k b bs ∙ ap (λ v. cond v (suc (run k bs)) 0) (ap (λ j. same j k) e ∙ same_refl k)
 
 first_token : (b : ℕ) (bs : List ℕ) (k : Class) → class b ≡ k → (k ≡ Blank → ⊥) → IsToken (take (size_by k (b ∷ bs)) (b ∷ bs)) (drop (size_by k (b ∷ bs)) (b ∷ bs))
 first_token b bs Letter e n =
@@ -95,7 +69,7 @@ first_token b bs Mark e n = mark b e
 
 -- a token in front of the tokens of the rest
 headed : (p : ℕ) (s : List ℕ) (n : ℕ) (ls : List Lexeme) → n ≤ length s → IsToken (take n s) (drop n s) → LexemesAre (p + n) (drop n s) ls → LexemesAre p s (record { place = p; bytes = take n s } ∷ ls)
-headed p s n ls h t l = subst (λ x. LexemesAre p x (record { place = p; bytes = take n s } ∷ ls)) (split n s h) (token (take n s) t (subst (λ m. LexemesAre (p + m) (drop n s) ls) (sym (taken n s h)) l))
+headed p s n ls h t l = subst (λ x. LexemesAre p x (record { place = p; bytes = take n s } ∷ ls)) (take-append-drop n s) (token (take n s) t (subst (λ m. LexemesAre (p + m) (drop n s) ls) (sym (length-take-le n s h)) l))
 
 are_lexemes : (n p : ℕ) (s : List ℕ) → length s ≤ n → LexemesAre p s (lexemes_from 0 p s)
 are_lexemes n p [] h = none

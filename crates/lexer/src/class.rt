@@ -1,8 +1,8 @@
 // Classes of bytes, and runs of one class.
 ghost use Rattle.std.specs.Prelude.{◌≡◌, ◌≤◌, length};
-ghost use Rattle.lexer.specs.Classes.{class, same, run};
+ghost use Rattle.lexer.specs.Classes.{class, run};
 
-#[derive(Clone, Copy)]
+#[derive(Clone, Copy, PartialEq, Eq)]
 pub enum Class {
     Letter,
     Digit,
@@ -11,26 +11,16 @@ pub enum Class {
     Mark,
 }
 
-pub fn class_of(b: u8) -> Class
-    ensures { result ≡ class b }
-{
-    match b {
-        b'A'..=b'Z' | b'a'..=b'z' => Class::Letter,
-        b'0'..=b'9' => Class::Digit,
-        b' ' => Class::Blank,
-        _ => Class::Mark,
-    }
-}
+impl From<u8> for Class {
+    ghost from_gives = { λ b result. result ≡ class b };
 
-fn is(b: u8, k: Class) -> bool
-    ensures { result ≡ same (class b) k }
-{
-    match (class_of(b), k) {
-        (Class::Letter, Class::Letter) => true,
-        (Class::Digit, Class::Digit) => true,
-        (Class::Blank, Class::Blank) => true,
-        (Class::Mark, Class::Mark) => true,
-        _ => false,
+    fn from(b: u8) -> Class {
+        match b {
+            b'A'..=b'Z' | b'a'..=b'z' => Class::Letter,
+            b'0'..=b'9' => Class::Digit,
+            b' ' => Class::Blank,
+            _ => Class::Mark,
+        }
     }
 }
 
@@ -39,10 +29,5 @@ pub(crate) fn run_len(s: &[u8], k: Class) -> usize
     ensures is { result ≡ run k s.now }
     ensures within { result ≤ length s.now }
 {
-    for (i, b) in s.iter().enumerate() {
-        if !is(*b, k) {
-            return i;
-        }
-    }
-    s.len()
+    s.iter().take_while(|&&b| Class::from(b) == k).count()
 }

@@ -2,7 +2,8 @@
 -- then the text, then the blocks.
 use Rattle.std.specs.Prelude.{ℕ, cond, List, length, Some, None, Ok, Err, Option, Result, nat_le}
 use Rattle.model.specs.declared.line.Line.{Line}
-use Rattle.grammar.specs.Answer.{Answer, read, refused, number_of, answer}
+use Rattle.grammar.specs.Answer.{Answer, read, refused, answer}
+use Rattle.grammar.specs.Causes.{number_of}
 use Rattle.program.specs.declared.refusal.TableRefusal.{TableRefusal}
 use Rattle.program.specs.declared.refusal.TableRefusal.TheVariants.{Lines}
 use Rattle.program.specs.declared.refusal.LineRefusal.{LineRefusal}

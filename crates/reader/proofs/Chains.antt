@@ -1,5 +1,5 @@
 -- One method of the reader after another does what one parser after another reads.
-use Rattle.std.proofs.Common.{◌≡◌, ℕ, true, false, cond, List, [], ◌∷◌, ◌++◌, length, Some, None, Ok, Err, Option, Result, sym, refl, ap, ◌∙◌, subst, append_assoc}
+use Rattle.std.proofs.Common.{◌≡◌, ℕ, true, false, cond, List, [], ◌∷◌, ◌++◌, length, Some, None, Ok, Err, Option, Result, IsErrAnd, sym, refl, ap, ◌∙◌, subst, append_assoc}
 use Rattle.lexer.specs.declared.lexer.Lexer.{Lexer}
 use Rattle.lexer.specs.Lexemes.{Lexeme}
 use Rattle.model.specs.declared.line.Line.{Line}
@@ -8,12 +8,11 @@ use Rattle.grammar.specs.declared.symbol.Item.{Item}
 use Rattle.grammar.specs.declared.refusal.Cause.TheVariants.{Unexpected, Twice}
 use Rattle.grammar.specs.declared.refusal.Refusal.{Refusal}
 use Rattle.grammar.specs.Axes.{names}
-use Rattle.grammar.specs.declared.symbol.Tested.{Tested}
-use Rattle.grammar.specs.declared.symbol.Tested.TheVariants.{Fits as fits, Over as over, Wrong as wrong}
+use Rattle.grammar.specs.declared.refusal.Cause.{Cause}
 use Rattle.grammar.specs.Combinators.{Parsed, got, bad, Parser, after, bind, pure, tested, expect, ends, or_more}
 use Rattle.grammar.specs.Symbols.{symbol_of, symbols}
 use Rattle.grammar.specs.Answer.{front}
-use Rattle.reader.specs.Parses.{ahead, Suffix, Placed, Agrees, Parses, Next, Takes}
+use Rattle.reader.specs.Parses.{ahead, Suffix, Placed, Agrees, Parses, Next, Takes, Expects}
 use Rattle.grammar.specs.Tests.{tried, outcome}
 
 trans : (xs ys zs : List Lexeme) → Suffix xs ys → Suffix ys zs → Suffix xs zs
@@ -45,6 +44,11 @@ module _ {A B : Type 0} (p : Parser A) (q : A → Parser B) (a b : Lexer) where
   pub parses_stop : (e : Refusal) → Parses p a (Err e) b → Parses (bind p q) a (Err e) b
   parses_stop e d = record { same = d.same; past = d.past; says = agrees_stop (p (symbols (ahead a))) q _ (ahead a) (ahead b) (ahead b) e d.says }
 
+-- a refusal that `?` hands on
+pub parses_refused : {A : Type 0} (p : Parser A) (a b : Lexer) (r : Result A Refusal) (e : Refusal) → IsErrAnd r (λ x. x ≡ e) → Parses p a (Err e) b → Parses p a r b
+parses_refused p a b (Ok x) e h d = absurd h
+parses_refused p a b (Err x) e h d = subst (λ y. Parses p a (Err y) b) (sym h) d
+
 pub parses_pure : {A : Type 0} (a : Lexer) (x : A) → Parses (pure x) a (Ok x) a
 parses_pure a x = record { same = refl; past = ([], refl); says = (refl, refl) }
 
@@ -54,10 +58,6 @@ parses_by p a b r k l e d = subst (λ x. Parses (p x) a r b) (sym e) d
 
 pub parses_same : {K A : Type 0} (p : K → Parser A) (a b : Lexer) (r : Result A Refusal) (k l : K) → k ≡ l → Parses (p k) a r b → Parses (p l) a r b
 parses_same p a b r k l e d = subst (λ x. Parses (p x) a r b) e d
-
--- p was read, and what it gave makes y
-pub parses_end : {A B : Type 0} (p : Parser A) (f : A → B) (a b : Lexer) (x : A) (y : B) → Parses p a (Ok x) b → y ≡ f x → Parses (bind p (λ z. pure (f z))) a (Ok y) b
-parses_end p f a b x y d e = subst (λ z. Parses (bind p (λ z. pure (f z))) a (Ok z) b) (sym e) (parses_then p (λ z. pure (f z)) a b b x (Ok (f x)) d (parses_pure b (f x)))
 
 -- ---- one token
 takes_past : (from to : List Lexeme) (end place : ℕ) (s : Option Symbol) → Next from end place s to → Suffix from to
@@ -71,23 +71,26 @@ refused_here from to end place t e p = (from, ([], refl), refl, p ∙ ap (λ l. 
 refused_end : (from : List Lexeme) (end place : ℕ) → from ≡ [] → place ≡ end → Placed from end (symbols from) place
 refused_end from end place e p = (from, ([], refl), refl, p ∙ ap (λ l. front l end) (sym e))
 
-tested_agrees : {A : Type 0} (v : Tested A) (from to : List Lexeme) (end place : ℕ) (t : Lexeme) → from ≡ t ∷ to → place ≡ t.place → Agrees (tested v (symbol_of t.bytes) (symbols to)) end from (outcome (v) place) to
-tested_agrees (fits a) from to end place t e p = (refl, refl)
-tested_agrees over from to end place t e p = (refl, subst (λ r. Placed from end r place) (ap symbols e) (refused_here from to end place t e p))
-tested_agrees wrong from to end place t e p = (refl, subst (λ r. Placed from end r place) (ap symbols e) (refused_here from to end place t e p))
+tested_agrees : {A : Type 0} (v : Result A Cause) (from to : List Lexeme) (end place : ℕ) (t : Lexeme) → from ≡ t ∷ to → place ≡ t.place → Agrees (tested v (symbol_of t.bytes) (symbols to)) end from (outcome (v) place) to
+tested_agrees (Ok a) from to end place t e p = (refl, refl)
+tested_agrees (Err c) from to end place t e p = (refl, subst (λ r. Placed from end r place) (ap symbols e) (refused_here from to end place t e p))
 
-leaf : {A : Type 0} (f : Symbol → Tested A) (from to : List Lexeme) (end place : ℕ) (s : Option Symbol) → Next from end place s to → Agrees (expect f (symbols from)) end from (outcome (tried f s) place) to
+leaf : {A : Type 0} (f : Symbol → Result A Cause) (from to : List Lexeme) (end place : ℕ) (s : Option Symbol) → Next from end place s to → Agrees (expect f (symbols from)) end from (outcome (tried f s) place) to
 leaf f from to end place None n = subst (λ l. Agrees (expect f l) end from (outcome (tried f None) place) to) (sym (ap symbols n.0)) (refl, subst (λ r. Placed from end r place) (ap symbols n.0) (refused_end from end place n.0 n.2))
 leaf f from to end place (Some s) (t, e, p, se) =
     subst (λ x. Agrees (expect f (symbols from)) end from (outcome ((f x)) place) to) (sym se)
     (subst (λ l. Agrees (expect f l) end from (outcome (f (symbol_of t.bytes)) place) to) (sym (ap symbols e)) (tested_agrees (f (symbol_of t.bytes)) from to end place t e p))
 
-pub parses_leaf : {A : Type 0} (f : Symbol → Tested A) (a : Lexer) (i : Item) (b : Lexer) (r : Result A Refusal) → Takes a i b → r ≡ outcome (tried f i.symbol) i.place → Parses (expect f) a r b
+pub parses_leaf : {A : Type 0} (f : Symbol → Result A Cause) (a : Lexer) (i : Item) (b : Lexer) (r : Result A Refusal) → Takes a i b → r ≡ outcome (tried f i.symbol) i.place → Parses (expect f) a r b
 parses_leaf f a i b r t e = record {
   same = t.same;
   past = takes_past _ _ _ _ i.symbol t.next;
   says = subst (λ x. Agrees (expect f (symbols (ahead a))) (length a.text.now) (ahead a) x (ahead b)) (sym e) (leaf f (ahead a) (ahead b) _ i.place i.symbol t.next);
 }
+
+-- a symbol that a function has tested, by what the function says
+pub parses_expected : {A : Type 0} (f : Symbol → Result A Cause) (a : Lexer) (r : Result A Refusal) (b : Lexer) → Expects (λ s t. Option Symbol × (t ≡ tried f s)) a r b → Parses (expect f) a r b
+parses_expected f a r b x = parses_leaf f a x.item b r x.takes (x.is ∙ ap (λ t. outcome t x.item.place) x.gives.1)
 
 -- ---- the end of a line, or more
 pub parses_last : (l : Line) (a : Lexer) (i : Item) (b : Lexer) → Takes a i b → i.symbol ≡ None → Parses (ends l) a (Ok l) b
@@ -109,7 +112,7 @@ parses_beyond l a i b s t e =
           (refl, subst (λ r. Placed (ahead a) (length a.text.now) r i.place) (ap symbols n.1) (refused_here (ahead a) (ahead b) _ i.place n.0 n.1 n.2));
     }
 
-module _ {A : Type 0} (l : Line) (f : Symbol → Tested A) (q : A → Parser Line) (a : Lexer) (i : Item) (b : Lexer) (t : Takes a i b) where
+module _ {A : Type 0} (l : Line) (f : Symbol → Result A Cause) (q : A → Parser Line) (a : Lexer) (i : Item) (b : Lexer) (t : Takes a i b) where
   pub parses_again : (s : Symbol) → i.symbol ≡ Some s → names l s ≡ true → Parses (or_more l f q) a (Err (record { cause = Twice; place = i.place })) b
   parses_again s e h =
       let n = subst (λ s. Next (ahead a) (length a.text.now) i.place s (ahead b)) e t.next in

@@ -1,6 +1,5 @@
 -- What the reader did is what the text is answered.
-use Rattle.std.proofs.Common.{◌≡◌, ℕ, suc, ◌+◌, ◌<◌, ◌≤◌, true, false, cond, eqb, leb, List, length, get_or, drop, Ok, Err, Result, sym, ap, ◌∙◌, arith, Bor}
-use Rattle.std.proofs.lemmas.List.{at_drop_more, drop_all}
+use Rattle.std.proofs.Common.{◌≡◌, ℕ, ◌≤◌, true, cond, eqb, leb, List, length, drop, Ok, Err, Result, sym, ap, ◌∙◌, arith, Bor}
 use Rattle.std.proofs.lemmas.Bool.Decides.{nat_tests}
 use Rattle.lexer.specs.declared.lexer.Lexer.{Lexer}
 use Rattle.model.specs.declared.line.Line.{Line}
@@ -8,7 +7,7 @@ use Rattle.grammar.specs.declared.refusal.Refusal.{Refusal}
 use Rattle.grammar.specs.Combinators.{Parsed, got, bad}
 use Rattle.grammar.specs.Parser.{line}
 use Rattle.grammar.specs.Symbols.{symbols}
-use Rattle.grammar.specs.Answer.{said, read, refused, front, answered, reading, permitted, clear, answer}
+use Rattle.grammar.specs.Answer.{said, read, refused, front, answered, reading, clear, answer}
 use Rattle.lexer.specs.Lexemes.{Lexeme, lexemes, lexemes_from}
 use Rattle.reader.specs.Parses.{ahead, Agrees, Parses}
 use Rattle.grammar.proofs.Texts.{dropped}
@@ -24,20 +23,6 @@ pub parses_reading : (a : Lexer) (r : Result Line Refusal) (b : Lexer) (text : B
 parses_reading a r b text z e d =
     let from : ahead a ≡ lexemes text.now = λ i. lexemes_from 0 (z i) (drop (z i) (e i).now) in
     told_by (line (symbols (ahead a))) (length a.text.now) (ahead a) (ahead b) r d.says ∙ (λ i. answered (from i) (length (e i).now) (line (symbols (from i))))
-
--- ---- the loop over the bytes
-pub on : (s : List ℕ) (i : ℕ) → i < length s → clear s ≡ i + clear (drop i s) → permitted (get_or s i 0) ≡ true → clear s ≡ (i + 1) + clear (drop (i + 1) s)
-on s i h e t =
-    let v : clear (drop i s) ≡ suc (clear (drop (i + 1) s)) = at_drop_more clear s i 0 h ∙ ap (λ b. cond b (suc (clear (drop (i + 1) s))) 0) t in
-    omega arith
-
-pub stop : (s : List ℕ) (i : ℕ) → i < length s → clear s ≡ i + clear (drop i s) → permitted (get_or s i 0) ≡ false → i ≡ clear s
-stop s i h e t =
-    let v : clear (drop i s) ≡ 0 = at_drop_more clear s i 0 h ∙ ap (λ b. cond b (suc (clear (drop (i + 1) s))) 0) t in
-    omega arith
-
-pub end_of : (s : List ℕ) (i : ℕ) → length s ≤ i → clear s ≡ i + clear (drop i s) → i ≡ clear s
-end_of s i h e = let v : clear (drop i s) ≡ 0 = ap clear (drop_all i s h) in omega arith
 
 -- ---- a text that passes the two tests
 pub passed : (s : List ℕ) → length s ≤ 120 → clear s ≡ length s → answer s ≡ reading s

@@ -1,4 +1,3 @@
 pub mod Chains
-pub mod Bounds
 pub mod Words
 pub mod Finish

@@ -1,5 +1,5 @@
 -- The reader's axis words: what one turn does.
-use Rattle.std.proofs.Common.{◌≡◌, ℕ, zero, suc, ◌-◌, ◌<◌, true, false, Some, Ok, Err, Result, sym, refl, ap, ◌∙◌, subst, arith}
+use Rattle.std.proofs.Common.{◌≡◌, ℕ, zero, suc, ◌-◌, ◌<◌, true, false, Some, None, Option, is_some, true≢false, Ok, Err, Result, sym, refl, ap, ◌∙◌, subst, arith}
 use Rattle.lexer.specs.declared.lexer.Lexer.{Lexer}
 use Rattle.model.specs.declared.expression.Value.{Value}
 use Rattle.model.specs.declared.line.Axis.{Axis}
@@ -74,26 +74,36 @@ axis_not (Letter a) p f m e = absurd (let z : ◌≡◌ {A = ℕ} 0 1 = cc in om
 axis_not (Relation r) p f m e = refl
 axis_not Unknown p f m e = refl
 
-module _ (g : Motion) (m : AxisValues) (a : Lexer) (i : Item) (b : Lexer) (t : Takes a i b) where
-  pub words_refused : (s : Symbol) (f : Refusal) → i.symbol ≡ Some s → Err f ≡ outcome (tried axis (Some s)) i.place → Parses (more_words g m) a (Err f) b
-  words_refused s f e h =
+-- a symbol was taken
+pub some_symbol : (o : Option Symbol) → is_some o ≡ true → (s : Symbol) × (o ≡ Some s)
+some_symbol None e = absurd (true≢false (sym e))
+some_symbol (Some s) e = (s, refl)
+
+module _ (g : Motion) (m : AxisValues) (a : Lexer) (i : Item) (b : Lexer) (t : Takes a i b) (s : Symbol) (e : i.symbol ≡ Some s) where
+  -- what an axis is expected to be, at the symbol
+  at : (r : Result Axis Refusal) → r ≡ outcome (tried axis i.symbol) i.place → r ≡ outcome (axis s) i.place
+  at r h = h ∙ ap (λ o. outcome (tried axis o) i.place) e
+
+  pub words_refused : (f : Refusal) → Err f ≡ outcome (tried axis i.symbol) i.place → Parses (more_words g m) a (Err f) b
+  words_refused f h =
       subst (λ p. Parses p a (Err f) b) (sym (more_is (4 - count m) g m))
-      (parses_more (moved g m) axis (goes (4 - count m) g m) a i b t s (Err f) b e (axis_not s i.place f m h)
-      (parses_stop (expect axis) (goes (4 - count m) g m) a b f (parses_leaf axis a i b (Err f) t (h ∙ ap (λ o. outcome (tried axis o) i.place) (sym e)))))
+      (parses_more (moved g m) axis (goes (4 - count m) g m) a i b t s (Err f) b e (axis_not s i.place f m (at _ h))
+      (parses_stop (expect axis) (goes (4 - count m) g m) a b f (parses_leaf axis a i b (Err f) t h)))
 
-  pub words_twice : (s : Symbol) (x : Axis) → i.symbol ≡ Some s → Ok x ≡ outcome (tried axis (Some s)) i.place → has m x ≡ true → Parses (more_words g m) a (Err (record { cause = Twice; place = i.place })) b
-  words_twice s x e h k =
-      subst (λ p. Parses p a (Err (record { cause = Twice; place = i.place })) b) (sym (more_is (4 - count m) g m))
-      (parses_again (moved g m) axis (goes (4 - count m) g m) a i b t s e (ap (has_symbol m) (axis_read s i.place x h) ∙ k))
+  module _ (x : Axis) (h : Ok x ≡ outcome (tried axis i.symbol) i.place) where
+    pub words_twice : has m x ≡ true → Parses (more_words g m) a (Err (record { cause = Twice; place = i.place })) b
+    words_twice k =
+        subst (λ p. Parses p a (Err (record { cause = Twice; place = i.place })) b) (sym (more_is (4 - count m) g m))
+        (parses_again (moved g m) axis (goes (4 - count m) g m) a i b t s e (ap (has_symbol m) (axis_read s i.place x (at _ h)) ∙ k))
 
-  on : (s : Symbol) (x : Axis) (r : Result Line Refusal) (d : Lexer) → i.symbol ≡ Some s → Ok x ≡ outcome (tried axis (Some s)) i.place → has m x ≡ false → Parses (goes (4 - count m) g m x) b r d → Parses (more_words g m) a r d
-  on s x r d e h k dg =
-      subst (λ p. Parses p a r d) (sym (more_is (4 - count m) g m))
-      (parses_more (moved g m) axis (goes (4 - count m) g m) a i b t s r d e (ap (has_symbol m) (axis_read s i.place x h) ∙ k)
-      (parses_then (expect axis) (goes (4 - count m) g m) a b d x r (parses_leaf axis a i b (Ok x) t (h ∙ ap (λ o. outcome (tried axis o) i.place) (sym e))) dg))
+    on : (r : Result Line Refusal) (d : Lexer) → has m x ≡ false → Parses (goes (4 - count m) g m x) b r d → Parses (more_words g m) a r d
+    on r d k dg =
+        subst (λ p. Parses p a r d) (sym (more_is (4 - count m) g m))
+        (parses_more (moved g m) axis (goes (4 - count m) g m) a i b t s r d e (ap (has_symbol m) (axis_read s i.place x (at _ h)) ∙ k)
+        (parses_then (expect axis) (goes (4 - count m) g m) a b d x r (parses_leaf axis a i b (Ok x) t h) dg))
 
-  pub words_stop : (s : Symbol) (x : Axis) (f : Refusal) (d : Lexer) → i.symbol ≡ Some s → Ok x ≡ outcome (tried axis (Some s)) i.place → has m x ≡ false → Parses value b (Err f) d → Parses (more_words g m) a (Err f) d
-  words_stop s x f d e h k dv = on s x (Err f) d e h k (goes_stop (4 - count m) g m x b d f refl k dv)
+    pub words_stop : (f : Refusal) (d : Lexer) → has m x ≡ false → Parses value b (Err f) d → Parses (more_words g m) a (Err f) d
+    words_stop f d k dv = on (Err f) d k (goes_stop (4 - count m) g m x b d f refl k dv)
 
-  pub words_then : (s : Symbol) (x : Axis) (v : Value) (r : Result Line Refusal) (c d : Lexer) → i.symbol ≡ Some s → Ok x ≡ outcome (tried axis (Some s)) i.place → has m x ≡ false → Parses value b (Ok v) c → Parses (more_words g (put m x v)) c r d → Parses (more_words g m) a r d
-  words_then s x v r c d e h k dv dm = on s x r d e h k (goes_then (4 - count m) g m x b c d v r refl k dv dm)
+    pub words_then : (v : Value) (r : Result Line Refusal) (c d : Lexer) → has m x ≡ false → Parses value b (Ok v) c → Parses (more_words g (put m x v)) c r d → Parses (more_words g m) a r d
+    words_then v r c d k dv dm = on r d k (goes_then (4 - count m) g m x b c d v r refl k dv dm)

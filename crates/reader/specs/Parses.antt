@@ -7,7 +7,10 @@ use Rattle.grammar.specs.declared.symbol.Item.{Item}
 use Rattle.grammar.specs.declared.refusal.Refusal.{Refusal}
 use Rattle.grammar.specs.Combinators.{Parsed, got, bad, Parser}
 use Rattle.grammar.specs.Symbols.{symbol_of, symbols}
-use Rattle.grammar.specs.Answer.{number_of, front}
+use Rattle.grammar.specs.Answer.{front}
+use Rattle.grammar.specs.Causes.{number_of}
+use Rattle.grammar.specs.Tests.{outcome}
+use Rattle.grammar.specs.declared.refusal.Cause.{Cause}
 
 -- the tokens that are still ahead of the lexer
 abbrev pub ahead : Lexer → List Lexeme
@@ -41,3 +44,11 @@ Next from end place (Some s) to = (t : Lexeme) × (from ≡ t ∷ to) × (place 
 pub record Takes (a : Lexer) (i : Item) (b : Lexer) : Type 0 where
   pub same : b.text ≡ a.text
   pub next : Next (ahead a) (length a.text.now) i.place i.symbol (ahead b)
+
+-- the lexer goes on by one symbol, and what the test P says of it is answered at its place
+pub record Expects {A : Type 0} (P : Option Symbol → Result A Cause → Type 0) (a : Lexer) (r : Result A Refusal) (b : Lexer) : Type 0 where
+  pub item : Item
+  pub tested : Result A Cause
+  pub takes : Takes a item b
+  pub gives : P item.symbol tested
+  pub is : r ≡ outcome tested item.place

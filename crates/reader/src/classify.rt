@@ -6,12 +6,13 @@ ghost use Rattle.lexer.specs.declared.class.Class.TheVariants.{Digit};
 ghost use Rattle.grammar.specs.Symbols.{axis_of, relation_of, keyword_of, letters, mark, symbol_of};
 
 use grammar::symbol::{Keyword, Symbol};
-use lexer::class::{Class, class_of};
+use lexer::class::Class;
 use lexer::digits::number;
 use lexer::keyword::is_keyword;
 use model::expression::Rel;
 use model::line::Axis;
 
+// The words are tested one by one, here and below: a table of pairs would be as long, and its search one function more.
 fn axis_of(s: &[u8]) -> Option<Axis>
     ensures { result ≡ axis_of s.now }
 {
@@ -71,16 +72,11 @@ fn keyword_of(s: &[u8]) -> Option<Keyword>
 fn letters_of(s: &[u8]) -> Symbol
     ensures { result ≡ letters s.now }
 {
-    if let Some(a) = axis_of(s) {
-        return Symbol::Letter(a);
-    }
-    if let Some(r) = relation_of(s) {
-        return Symbol::Relation(r);
-    }
-    match keyword_of(s) {
-        Some(w) => Symbol::Fixed(w),
-        None => Symbol::Unknown,
-    }
+    axis_of(s)
+        .map(Symbol::Letter)
+        .or_else(|| relation_of(s).map(Symbol::Relation))
+        .or_else(|| keyword_of(s).map(Symbol::Fixed))
+        .unwrap_or(Symbol::Unknown)
 }
 
 fn mark_of(b: u8) -> Symbol
@@ -104,15 +100,10 @@ pub fn symbol_of(s: &[u8]) -> Symbol
     requires all_digits { class (slice_index s.now 0) ≡ Digit → AllDigits 10 s.now }
     ensures { result ≡ symbol_of s.now }
 {
-    match class_of(s[0]) {
+    match Class::from(s[0]) {
         Class::Letter => letters_of(s),
-        Class::Digit => {
-            if s.len() <= 8 {
-                Symbol::Digits(number(s))
-            } else {
-                Symbol::Long
-            }
-        }
+        Class::Digit if s.len() <= 8 => Symbol::Digits(number(s)),
+        Class::Digit => Symbol::Long,
         Class::Mark => mark_of(s[0]),
         Class::Blank => Symbol::Unknown,
     }

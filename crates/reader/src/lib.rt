@@ -22,7 +22,7 @@ pub const MAX_TEXT: usize = 120;
 fn allowed(b: u8) -> bool
     ensures { result ≡ permitted b }
 {
-    b >= 32 && b <= 126
+    b.is_ascii_graphic() || b == b' '
 }
 
 // How many bytes at the front are allowed.
@@ -30,12 +30,7 @@ fn clear_len(text: &[u8]) -> usize
     ensures is { result ≡ clear text.now }
     ensures within { result ≤ length text.now }
 {
-    for (i, b) in text.iter().enumerate() {
-        if !allowed(*b) {
-            return i;
-        }
-    }
-    text.len()
+    text.iter().take_while(|&&b| allowed(b)).count()
 }
 
 // The stored line that the text is, or why and where it is refused: the one answer that the grammar gives.

@@ -1,17 +1,14 @@
-// The reader of a line over its lexer: one method for each symbol that is expected.
+// The reader of a line over its lexer: each symbol that is expected.
 ghost use Rattle.std.specs.Prelude.{◌≡◌, ◌≤◌, IfOk};
-ghost use Rattle.reader.specs.Parses.{Parses, Takes};
+ghost use Rattle.reader.specs.Parses.{Parses, Takes, Expects};
 ghost use Rattle.grammar.specs.Combinators.{expect};
-ghost use Rattle.grammar.specs.Tests.{digits, only, axis, relation};
-ghost use Rattle.grammar.specs.Parser.{term_first, value_first, operator, block_word};
+ghost use Rattle.grammar.specs.Tests.{digits, only};
 
 use crate::classify::symbol_of;
 use crate::expect;
-use grammar::refusal::Refusal;
-use grammar::symbol::{BlockWord, Item, Keyword, TermStart, ValueStart};
+use grammar::refusal::{Cause, Refusal};
+use grammar::symbol::{Item, Keyword, Symbol};
 use lexer::lexer::Lexer;
-use model::expression::{Op, Rel};
-use model::line::Axis;
 
 mod lines;
 mod values;
@@ -46,60 +43,28 @@ impl<'a> Reader<'a> {
         }
     }
 
+    // The next symbol, as the test takes it.
+    fn expect<A, F: FnOnce(Option<Symbol>) -> Result<A, Cause>>(
+        &mut self,
+        test: F,
+    ) -> Result<A, Refusal>
+        requires { F.IsAlwaysCallable test }
+        ensures { Expects (F.post test) self.old.lexer result self.new.lexer }
+    {
+        let item = self.next();
+        expect::outcome(test(item.symbol), item.place)
+    }
+
     fn digits(&mut self, lo: u32, hi: u32) -> Result<u32, Refusal>
         ensures bound { IfOk result (λ n. n ≤ hi) }
         ensures parses { Parses (expect (digits lo hi)) self.old.lexer result self.new.lexer }
     {
-        let item = self.next();
-        expect::outcome(expect::digits(item.symbol, lo, hi), item.place)
+        self.expect(|s| expect::digits(s, lo, hi))
     }
 
     fn keyword(&mut self, k: Keyword) -> Result<Keyword, Refusal>
         ensures { Parses (expect (only k)) self.old.lexer result self.new.lexer }
     {
-        let item = self.next();
-        expect::outcome(expect::only(item.symbol, k), item.place)
-    }
-
-    fn term_first(&mut self) -> Result<TermStart, Refusal>
-        ensures { Parses (expect term_first) self.old.lexer result self.new.lexer }
-    {
-        let item = self.next();
-        expect::outcome(expect::term_first(item.symbol), item.place)
-    }
-
-    fn value_first(&mut self) -> Result<ValueStart, Refusal>
-        ensures { Parses (expect value_first) self.old.lexer result self.new.lexer }
-    {
-        let item = self.next();
-        expect::outcome(expect::value_first(item.symbol), item.place)
-    }
-
-    fn operator(&mut self) -> Result<Op, Refusal>
-        ensures { Parses (expect operator) self.old.lexer result self.new.lexer }
-    {
-        let item = self.next();
-        expect::outcome(expect::operator(item.symbol), item.place)
-    }
-
-    fn relation(&mut self) -> Result<Rel, Refusal>
-        ensures { Parses (expect relation) self.old.lexer result self.new.lexer }
-    {
-        let item = self.next();
-        expect::outcome(expect::relation(item.symbol), item.place)
-    }
-
-    fn axis(&mut self) -> Result<Axis, Refusal>
-        ensures { Parses (expect axis) self.old.lexer result self.new.lexer }
-    {
-        let item = self.next();
-        expect::outcome(expect::axis(item.symbol), item.place)
-    }
-
-    fn block_word(&mut self) -> Result<BlockWord, Refusal>
-        ensures { Parses (expect block_word) self.old.lexer result self.new.lexer }
-    {
-        let item = self.next();
-        expect::outcome(expect::block_word(item.symbol), item.place)
+        self.expect(|s| expect::only(s, k))
     }
 }

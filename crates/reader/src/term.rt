@@ -5,6 +5,7 @@ ghost use Rattle.grammar.specs.Grammar.{parameter_of};
 
 use model::expression::{Parameter, Term};
 
+// A function for each sign, so that the bound of the cast is asked of the digits.
 pub fn positive(n: u32) -> Term
     requires { n ≤ limit }
     ensures { result ≡ Term.Number (pos n) }
@@ -19,7 +20,7 @@ pub fn negative(n: u32) -> Term
     Term::Number(-(n as i32))
 }
 
-// The parameter of a number from 1 to 6.
+// The parameter of a number from 1 to 6. A TryFrom would bring an error that cannot come after the test of the digits.
 pub fn parameter_of(n: u32) -> Parameter
     ensures { result ≡ parameter_of n }
 {

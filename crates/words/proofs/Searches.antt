@@ -1,18 +1,15 @@
--- The steps of a search for a byte.
-use Rattle.std.proofs.Common.{◌≡◌, ℕ, ◌+◌, ◌<◌, ◌≤◌, true, false, cond, eqb, List, length, get_or, drop, arith}
-use Rattle.std.proofs.lemmas.Bool.{eq-eqb, ne_eqb}
-use Rattle.std.proofs.lemmas.List.{at_drop_more, at_drop_all}
+-- The searches over a text, in std's words.
+use Rattle.std.proofs.Common.{◌≡◌, ℕ, ◌+◌, true, false, cond, not, eqb, ◌&&◌, List, [], ◌∷◌, refl, ap, arith}
+use Rattle.std.specs.List.{list_all, prefix_len}
 use Rattle.words.specs.Cuts.{until}
+use Rattle.words.specs.Numbers.{is_digit, all_digits}
 
-module _ (stop : ℕ) (bs : List ℕ) (i : ℕ) (inv : until stop bs ≡ i + until stop (drop i bs)) where
-  step : i < length bs → until stop (drop i bs) ≡ cond (eqb (get_or bs i 0) stop) 0 (until stop (drop (i + 1) bs) + 1)
-  step lt = at_drop_more (until stop) bs i 0 lt
+pub front_is : (stop : ℕ) (bs : List ℕ) → prefix_len (λ b. not (eqb b stop)) bs ≡ until stop bs
+front_is stop [] = refl
+front_is stop (b ∷ bs) =
+    let more = front_is stop bs in
+    elim (eqb b stop) as (λ t. cond (not t) (1 + prefix_len (λ b. not (eqb b stop)) bs) 0 ≡ cond t 0 (until stop bs + 1)) [ true ↦ refl | false ↦ omega arith ]
 
-  pub until_here : i < length bs → get_or bs i 0 ≡ stop → i ≡ until stop bs
-  until_here lt e = let t : eqb (get_or bs i 0) stop ≡ true = eq-eqb _ _ e in let s = rw t at (step lt) in omega arith
-
-  pub until_on : i < length bs → (get_or bs i 0 ≡ stop → ⊥) → until stop bs ≡ i + 1 + until stop (drop (i + 1) bs)
-  until_on lt e = let t : eqb (get_or bs i 0) stop ≡ false = ne_eqb _ _ e in let s = rw t at (step lt) in omega arith
-
-  pub until_all : length bs ≤ i → i ≤ length bs → length bs ≡ until stop bs
-  until_all le ge = let s : until stop (drop i bs) ≡ 0 = at_drop_all (until stop) bs i le in omega arith
+pub all_is : (bs : List ℕ) → list_all is_digit bs ≡ all_digits bs
+all_is [] = refl
+all_is (b ∷ bs) = ap (λ t. is_digit b && t) (all_is bs)

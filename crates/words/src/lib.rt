@@ -15,23 +15,13 @@ pub fn len_until(text: &[u8], stop: u8) -> usize
     ensures is { result ≡ until stop text.now }
     ensures within { result ≤ length text.now }
 {
-    for (i, b) in text.iter().enumerate() {
-        if *b == stop {
-            return i;
-        }
-    }
-    text.len()
+    text.iter().take_while(|&&b| b != stop).count()
 }
 
 fn is_digits(text: &[u8]) -> bool
     ensures { result ≡ all_digits text.now }
 {
-    for b in text {
-        if *b < b'0' || *b > b'9' {
-            return false;
-        }
-    }
-    true
+    text.iter().all(u8::is_ascii_digit)
 }
 
 // 1 to 8 digits.
@@ -39,17 +29,10 @@ fn natural(text: &[u8]) -> Option<i32>
     ensures is { result ≡ natural_of text.now }
     ensures low { IfSome result (λ n. pos 0 ≤ℤ n) }
 {
-    if text.len() == 0 || text.len() > MAX_DIGITS || !is_digits(text) {
+    if text.is_empty() || text.len() > MAX_DIGITS || !is_digits(text) {
         return None;
     }
     Some(digits::number(text) as i32)
-}
-
-fn negated(n: i32) -> i32
-    requires { pos 0 ≤ℤ n }
-    ensures { result ≡ neg_ℤ n }
-{
-    -n
 }
 
 // The number that the text is, if it is one.
@@ -57,10 +40,7 @@ pub fn number(text: &[u8]) -> Option<i32>
     ensures { result ≡ number_of text.now }
 {
     match text {
-        [b'-', rest @ ..] => match natural(rest) {
-            Some(n) => Some(negated(n)),
-            None => None,
-        },
+        [b'-', rest @ ..] => natural(rest).map(|n| -n),
         _ => natural(text),
     }
 }

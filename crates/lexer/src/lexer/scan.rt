@@ -3,7 +3,7 @@ ghost use Rattle.std.specs.Prelude.{◌≡◌, ◌<◌, ◌≤◌, length, slice
 ghost use Rattle.lexer.specs.Lexemes.{Heads};
 ghost use Rattle.lexer.specs.Parts.{size, Cut, Next};
 
-use crate::class::{Class, class_of, run_len};
+use crate::class::{Class, run_len};
 use crate::lexer::Lexer;
 use crate::token::Token;
 
@@ -30,16 +30,10 @@ impl<'a> Lexer<'a> {
     {
         let blanks = run_len(&self.text[self.at..], Class::Blank);
         let place = self.at + blanks;
-        match cut(&self.text[place..]) {
-            None => {
-                self.at = place;
-                None
-            }
-            Some((part, rest)) => {
-                self.at = self.text.len() - rest.len();
-                Some(Token { place, part })
-            }
-        }
+        self.at = place;
+        let (part, rest) = cut(&self.text[place..])?;
+        self.at = self.text.len() - rest.len();
+        Some(Token { place, part })
     }
 }
 
@@ -49,13 +43,7 @@ fn cut<'a>(s: &'a [u8]) -> Option<(&'a [u8], &'a [u8])>
 {
     match s {
         [] => None,
-        [b'#', rest @ ..] => Some((&s[0..1], rest)),
-        [b'[', rest @ ..] => Some((&s[0..1], rest)),
-        [b']', rest @ ..] => Some((&s[0..1], rest)),
-        [b'+', rest @ ..] => Some((&s[0..1], rest)),
-        [b'-', rest @ ..] => Some((&s[0..1], rest)),
-        [b'*', rest @ ..] => Some((&s[0..1], rest)),
-        [b'=', rest @ ..] => Some((&s[0..1], rest)),
+        [b'#' | b'[' | b']' | b'+' | b'-' | b'*' | b'=', rest @ ..] => Some((&s[..1], rest)),
         [first, ..] => {
             let n = first_len(s, *first);
             Some((&s[0..n], &s[n..]))
@@ -69,10 +57,8 @@ fn first_len(s: &[u8], first: u8) -> usize
     ensures is { result ≡ size s.now }
     ensures within { result ≤ length s.now }
 {
-    match class_of(first) {
-        Class::Letter => run_len(s, Class::Letter),
-        Class::Digit => run_len(s, Class::Digit),
-        Class::Blank => 1,
-        Class::Mark => 1,
+    match Class::from(first) {
+        run @ (Class::Letter | Class::Digit) => run_len(s, run),
+        Class::Blank | Class::Mark => 1,
     }
 }

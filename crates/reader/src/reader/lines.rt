@@ -31,7 +31,7 @@ impl<'a> Reader<'a> {
         ensures { Parses setting self.old.lexer result self.new.lexer }
     {
         let n = self.digits(1, 6)?;
-        let _ = self.keyword(Keyword::Equals)?;
+        self.keyword(Keyword::Equals)?;
         let v = self.value()?;
         self.ends(Line::Setting {
             parameter: parameter_of(n),
@@ -44,10 +44,10 @@ impl<'a> Reader<'a> {
         ensures { Parses (more_words motion values) self.old.lexer result self.new.lexer }
     {
         let item = self.next();
-        let Some(t) = item.symbol else {
+        if item.symbol.is_none() {
             return Ok(axes::moved(motion, values));
-        };
-        let a = expect::outcome(expect::axis(Some(t)), item.place)?;
+        }
+        let a = expect::outcome(expect::axis(item.symbol), item.place)?;
         if axes::has(values, a) {
             return Err(Refusal {
                 cause: Cause::Twice,
@@ -63,7 +63,7 @@ impl<'a> Reader<'a> {
         ensures { Parses move self.old.lexer result self.new.lexer }
     {
         let g = self.digits(0, 1)?;
-        let a = self.axis()?;
+        let a = self.expect(expect::axis)?;
         let v = self.value()?;
         self.more(axes::motion_of(g), axes::put(axes::none(), a, v))
     }
@@ -72,20 +72,15 @@ impl<'a> Reader<'a> {
     fn block_rest(&mut self, label: u16, word: BlockWord) -> Result<Line, Refusal>
         ensures { Parses (block_rest label word) self.old.lexer result self.new.lexer }
     {
+        // A method that took the line as a closure would be no shorter than the two arms.
         match word {
             BlockWord::While => {
-                let whole = self.condition()?;
-                self.ends(Line::While {
-                    label,
-                    condition: whole,
-                })
+                let condition = self.condition()?;
+                self.ends(Line::While { label, condition })
             }
             BlockWord::If => {
-                let once = self.condition()?;
-                self.ends(Line::If {
-                    label,
-                    condition: once,
-                })
+                let condition = self.condition()?;
+                self.ends(Line::If { label, condition })
             }
             BlockWord::EndIf => self.ends(Line::EndIf { label }),
             BlockWord::EndWhile => self.ends(Line::EndWhile { label }),
@@ -97,7 +92,7 @@ impl<'a> Reader<'a> {
         ensures { Parses block self.old.lexer result self.new.lexer }
     {
         let n = self.digits(1, 9999)?;
-        let word = self.block_word()?;
+        let word = self.expect(expect::block_word)?;
         self.block_rest(n as u16, word)
     }
 
@@ -115,10 +110,10 @@ impl<'a> Reader<'a> {
         ensures { Parses line self.old.lexer result self.new.lexer }
     {
         let item = self.next();
-        let Some(t) = item.symbol else {
+        if item.symbol.is_none() {
             return Ok(Line::Plain);
-        };
-        let start = expect::outcome(expect::line_first(Some(t)), item.place)?;
+        }
+        let start = expect::outcome(expect::line_first(item.symbol), item.place)?;
         self.line_rest(start)
     }
 }

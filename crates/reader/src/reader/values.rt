@@ -3,7 +3,7 @@ ghost use Rattle.reader.specs.Parses.{Parses};
 ghost use Rattle.grammar.specs.Parser.{term_rest, term, value_rest, value, bracket, comparison, condition};
 
 use crate::reader::Reader;
-use crate::term;
+use crate::{expect, term};
 use grammar::refusal::Refusal;
 use grammar::symbol::{Keyword, TermStart, ValueStart};
 use model::expression::{Condition, Expression, LIMIT, Term, Value};
@@ -14,25 +14,18 @@ impl<'a> Reader<'a> {
     {
         match start {
             TermStart::Whole(t) => Ok(t),
-            TermStart::Plus => {
-                let n = self.digits(0, LIMIT as u32)?;
-                Ok(term::positive(n))
-            }
-            TermStart::Minus => {
-                let m = self.digits(0, LIMIT as u32)?;
-                Ok(term::negative(m))
-            }
-            TermStart::Hash => {
-                let k = self.digits(1, 6)?;
-                Ok(Term::Parameter(term::parameter_of(k)))
-            }
+            TermStart::Plus => self.digits(0, LIMIT as u32).map(term::positive),
+            TermStart::Minus => self.digits(0, LIMIT as u32).map(term::negative),
+            TermStart::Hash => self
+                .digits(1, 6)
+                .map(|n| Term::Parameter(term::parameter_of(n))),
         }
     }
 
     fn term(&mut self) -> Result<Term, Refusal>
         ensures { Parses term self.old.lexer result self.new.lexer }
     {
-        let start = self.term_first()?;
+        let start = self.expect(expect::term_first)?;
         self.term_rest(start)
     }
 
@@ -41,9 +34,9 @@ impl<'a> Reader<'a> {
         ensures { Parses bracket self.old.lexer result self.new.lexer }
     {
         let a = self.term()?;
-        let o = self.operator()?;
+        let o = self.expect(expect::operator)?;
         let b = self.term()?;
-        let _ = self.keyword(Keyword::Close)?;
+        self.keyword(Keyword::Close)?;
         Ok(Value {
             expression: Expression::Apply(o, a, b),
         })
@@ -54,19 +47,16 @@ impl<'a> Reader<'a> {
     {
         match start {
             ValueStart::Opens => self.bracket(),
-            ValueStart::Begins(first) => {
-                let t = self.term_rest(first)?;
-                Ok(Value {
-                    expression: Expression::Bare(t),
-                })
-            }
+            ValueStart::Begins(first) => self.term_rest(first).map(|t| Value {
+                expression: Expression::Bare(t),
+            }),
         }
     }
 
     pub(super) fn value(&mut self) -> Result<Value, Refusal>
         ensures { Parses value self.old.lexer result self.new.lexer }
     {
-        let start = self.value_first()?;
+        let start = self.expect(expect::value_first)?;
         self.value_rest(start)
     }
 
@@ -75,16 +65,16 @@ impl<'a> Reader<'a> {
         ensures { Parses comparison self.old.lexer result self.new.lexer }
     {
         let left = self.term()?;
-        let rel = self.relation()?;
+        let rel = self.expect(expect::relation)?;
         let right = self.term()?;
-        let _ = self.keyword(Keyword::Close)?;
+        self.keyword(Keyword::Close)?;
         Ok(Condition { rel, left, right })
     }
 
     pub(super) fn condition(&mut self) -> Result<Condition, Refusal>
         ensures { Parses condition self.old.lexer result self.new.lexer }
     {
-        let _ = self.keyword(Keyword::Open)?;
+        self.keyword(Keyword::Open)?;
         self.comparison()
     }
 }

@@ -1,5 +1,5 @@
 use Rattle.std.proofs.Common.{sym}
-use Rattle.words.proofs.NumberTexts.{all_are_digits}
+use Rattle.words.proofs.Digits.{all_are_digits}
 use Rattle.words.proofs.natural.Goals as goal
 
 pub number-requires : goal.number-requires

@@ -19,7 +19,7 @@ overflow_add-n c =
 pub loop-b-preserved : goal.loop-b-preserved
 loop-b-preserved c = omega (arith, c.loop-b.invariant, more c.args.s.now c.loop-b.b-index c.requires.0 (omega arith))
 
-pub returns : goal.returns
-returns c =
+pub returns-clause-below : goal.returns-clause-below
+returns-clause-below c =
     let is : c.loop-b.n ≡ digits_value 10 c.args.s.now = c.loop-b.invariant ∙ ap (digits_value 10) (take_all c.loop-b.b-index c.args.s.now (omega arith)) in
-    record { is = is; below = omega (arith, below c.args.s.now c.requires.0 c.requires.1) }
+    omega (arith, below c.args.s.now c.requires.0 c.requires.1)

@@ -1,30 +1,31 @@
-use Rattle.std.proofs.Common.{sym, ap, ◌∙◌, arith}
-use Rattle.std.proofs.lemmas.Result.{err_from_is_err_and}
+use Rattle.std.proofs.Common.{sym, ap, ◌∙◌, arith, rules}
 use Rattle.grammar.specs.Axes.{count}
 use Rattle.grammar.specs.Parser.{more_words}
 use Rattle.grammar.specs.Tests.{outcome}
-use Rattle.reader.proofs.Chains.{parses_same}
-use Rattle.reader.proofs.Words.{words_refused, words_twice, words_stop, words_then, fewer}
+use Rattle.reader.proofs.Chains.{parses_same, parses_refused}
+use Rattle.reader.proofs.Words.{words_refused, words_twice, words_stop, words_then, some_symbol, fewer}
 use Rattle.reader.proofs.reader.Reader.+more.Goals as goal
 
 pub returns-in_err-a : goal.returns-in_err-a
 returns-in_err-a t c =
-    let p = err_from_is_err_and c.from_residual.result c.from_residual.ensures.1 in
-    rw (p.1, p.2) (words_refused c.args.motion c.args.values _ c.next-item.result _ c.next-item.ensures _ _ c.in-Some.is (c.in_err-a.ensures ∙ ap (λ x. outcome x c.next-item.result.place) c.axis.ensures))
+    let s = some_symbol c.next-item.result.symbol (search rules) in
+    parses_refused (more_words c.args.motion c.args.values) _ _ _ _ c.from_residual.ensures.1 (words_refused c.args.motion c.args.values _ c.next-item.result _ c.next-item.ensures s.0 s.1 _ (c.in_err-a.ensures ∙ ap (λ t. outcome t c.next-item.result.place) c.axis.ensures))
 
 pub returns-then-has : goal.returns-then-has
 returns-then-has t c =
-    words_twice c.args.motion c.args.values _ c.next-item.result _ c.next-item.ensures _ c.in_ok-a.a c.in-Some.is (c.in_ok-a.ensures ∙ ap (λ x. outcome x c.next-item.result.place) c.axis.ensures) (sym c.has.ensures ∙ c.if-has.true)
+    let s = some_symbol c.next-item.result.symbol (search rules) in
+    words_twice c.args.motion c.args.values _ c.next-item.result _ c.next-item.ensures s.0 s.1 c.in_ok-a.a (c.in_ok-a.ensures ∙ ap (λ t. outcome t c.next-item.result.place) c.axis.ensures) (sym c.has.ensures ∙ c.if-has.true)
 
 pub returns-in_err-v : goal.returns-in_err-v
 returns-in_err-v t c =
-    let p = err_from_is_err_and c.from_residual-in_err-v.result c.from_residual-in_err-v.ensures.1 in
-    rw (p.1, p.2) (words_stop c.args.motion c.args.values _ c.next-item.result _ c.next-item.ensures _ c.in_ok-a.a _ _ c.in-Some.is (c.in_ok-a.ensures ∙ ap (λ x. outcome x c.next-item.result.place) c.axis.ensures) (sym c.has.ensures ∙ c.if-has.false) c.in_err-v.ensures)
+    let s = some_symbol c.next-item.result.symbol (search rules) in
+    parses_refused (more_words c.args.motion c.args.values) _ _ _ _ c.from_residual-in_err-v.ensures.1 (words_stop c.args.motion c.args.values _ c.next-item.result _ c.next-item.ensures s.0 s.1 c.in_ok-a.a (c.in_ok-a.ensures ∙ ap (λ t. outcome t c.next-item.result.place) c.axis.ensures) _ _ (sym c.has.ensures ∙ c.if-has.false) c.in_err-v.ensures)
 
 pub more-requires : goal.more-requires
 more-requires t c = omega (arith, c.decreases, ap count c.put.ensures, fewer c.args.values c.in_ok-a.a c.in_ok-v.v (sym c.has.ensures ∙ c.if-has.false))
 
 pub returns : goal.returns
 returns t c =
-    words_then c.args.motion c.args.values _ c.next-item.result _ c.next-item.ensures _ c.in_ok-a.a c.in_ok-v.v _ _ _ c.in-Some.is (c.in_ok-a.ensures ∙ ap (λ x. outcome x c.next-item.result.place) c.axis.ensures) (sym c.has.ensures ∙ c.if-has.false) c.in_ok-v.ensures
+    let s = some_symbol c.next-item.result.symbol (search rules) in
+    words_then c.args.motion c.args.values _ c.next-item.result _ c.next-item.ensures s.0 s.1 c.in_ok-a.a (c.in_ok-a.ensures ∙ ap (λ t. outcome t c.next-item.result.place) c.axis.ensures) c.in_ok-v.v _ _ _ (sym c.has.ensures ∙ c.if-has.false) c.in_ok-v.ensures
     (parses_same (more_words c.args.motion) _ _ _ _ _ c.put.ensures c.more.ensures)

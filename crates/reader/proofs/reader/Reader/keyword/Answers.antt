@@ -1,7 +1,10 @@
-use Rattle.std.proofs.Common.{ap, ◌∙◌}
-use Rattle.grammar.specs.Tests.{only, outcome}
+use Rattle.std.proofs.Common.{◌≡◌, ap, ◌∙◌, rules}
+use Rattle.grammar.specs.Tests.{only, tried, outcome}
 use Rattle.reader.proofs.Chains.{parses_leaf}
 use Rattle.reader.proofs.reader.Reader.keyword.Goals as goal
 
 pub returns : goal.returns
-returns c = parses_leaf (only c.args.k) _ c.next-item.result _ _ c.next-item.ensures (c.outcome.ensures ∙ ap (λ t. outcome t c.next-item.result.place) c.only.ensures)
+returns c =
+    let x = c.expect.ensures in
+    let e : x.tested ≡ tried (only c.args.k) x.item.symbol = search rules in
+    parses_leaf (only c.args.k) _ x.item _ _ x.takes (x.is ∙ ap (λ t. outcome t x.item.place) e)

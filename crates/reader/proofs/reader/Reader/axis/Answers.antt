@@ -1,7 +1,0 @@
-use Rattle.std.proofs.Common.{ap, ◌∙◌}
-use Rattle.grammar.specs.Tests.{axis, outcome}
-use Rattle.reader.proofs.Chains.{parses_leaf}
-use Rattle.reader.proofs.reader.Reader.axis.Goals as goal
-
-pub returns : goal.returns
-returns c = parses_leaf axis _ c.next-item.result _ _ c.next-item.ensures (c.outcome.ensures ∙ ap (λ t. outcome t c.next-item.result.place) c.axis.ensures)

@@ -1,7 +1,0 @@
-use Rattle.std.proofs.Common.{ap, ◌∙◌}
-use Rattle.grammar.specs.Tests.{relation, outcome}
-use Rattle.reader.proofs.Chains.{parses_leaf}
-use Rattle.reader.proofs.reader.Reader.relation.Goals as goal
-
-pub returns : goal.returns
-returns c = parses_leaf relation _ c.next-item.result _ _ c.next-item.ensures (c.outcome.ensures ∙ ap (λ t. outcome t c.next-item.result.place) c.relation.ensures)
