@@ -4,9 +4,9 @@ ghost use Rattle.model.specs.Environments.{axes, full};
 ghost use Rattle.model.specs.Sides.{lowest};
 ghost use Rattle.sweep.specs.Sweeps.{set_one, set_all, sure_one, all_sure, hull_with, hulls_with};
 
-use domain::domain::{Domain, FULL};
+use domain::domain::Domain;
 use model::expression::Value;
-use model::range::Range;
+use model::range::{FULL, Range};
 use model::register::{AXES, Register};
 use std::array;
 use travel::travel::Travel;

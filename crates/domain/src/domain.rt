@@ -5,19 +5,10 @@ ghost use Rattle.domain.specs.Lattice.{Lattice, Lawful};
 ghost use Rattle.domain.specs.Nothing.{Strict};
 ghost use Rattle.domain.specs.Tracking.{Tracking};
 
-use model::expression::{Condition, Expression, LIMIT};
+use model::expression::{Condition, Expression};
 use model::range::Range;
 use model::register::Register;
 use model::side::Side;
-
-// Every number that a register may have.
-pub const FULL: Range = Range {
-    lo: -LIMIT,
-    hi: LIMIT,
-};
-
-// The range of no number.
-pub const EMPTY: Range = Range { lo: 1, hi: 0 };
 
 // A state means a set of environments; each operation is that of the lattice, and the laws tie them to the meaning.
 pub trait Domain: Copy {

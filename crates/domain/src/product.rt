@@ -7,9 +7,9 @@ ghost use Rattle.std.proofs.lemmas.Bool.{and_parts};
 ghost use Rattle.domain.specs.PairNothing.{pair_strict};
 ghost use Rattle.domain.specs.PairTracks.{pair_tracking};
 
-use crate::domain::{Domain, FULL};
+use crate::domain::Domain;
 use model::expression::{Condition, Expression};
-use model::range::Range;
+use model::range::{FULL, Range};
 use model::register::{REGISTERS, Register};
 use model::side::Side;
 

@@ -1,10 +1,10 @@
 // What the same steps come to in each domain, in products, in a product of a product, and beside a domain that tells nothing.
-use domain::domain::{Domain, EMPTY, FULL};
+use domain::domain::Domain;
 use domain::product::Product;
 use fickle::fickle::Fickle;
 use model::expression::{Condition, Expression, LIMIT, Op, Parameter, Rel, Term};
 use model::line::Axis;
-use model::range::Range;
+use model::range::{EMPTY, FULL, Range};
 use model::side::{Factor, Side, Sign};
 use pointwise::kinds::{Congruences, Intervals};
 use std::process::Abort;

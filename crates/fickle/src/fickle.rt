@@ -5,9 +5,9 @@ ghost use Rattle.fickle.specs.Fickle.{fickle, whole_or_empty, never};
 ghost use Rattle.model.specs.Environments.{registers};
 ghost use Rattle.fickle.specs.FickleLaws.{fickle_lawful, not_claimed};
 
-use domain::domain::{Domain, EMPTY};
+use domain::domain::Domain;
 use model::expression::{Condition, Expression};
-use model::range::Range;
+use model::range::{EMPTY, Range};
 use model::register::Register;
 use model::side::Side;
 

@@ -9,9 +9,9 @@ ghost use Rattle.pointwise.specs.StateNothing.{state_strict};
 ghost use Rattle.pointwise.specs.StateExact.{state_tracking};
 
 use crate::sets::{all_inside, bounded, changed, pairwise, sure_value, term, value};
-use domain::domain::{Domain, EMPTY};
+use domain::domain::Domain;
 use model::expression::{Condition, Expression, Term};
-use model::range::Range;
+use model::range::{EMPTY, Range};
 use model::register::{REGISTERS, Register};
 use model::side::Side;
 use number_sets::sets::{NumberSet, Pair};
