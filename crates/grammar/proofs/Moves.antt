@@ -1,15 +1,14 @@
 -- The parser of axis words reads axis words, each axis at most once.
-use Rattle.std.proofs.Common.{◌≡◌, ℕ, zero, suc, ◌+◌, ◌-◌, ◌≤◌, Bool, true, false, List, [], ◌∷◌, ◌++◌, sym, refl, ap, ◌∙◌, subst, inl, inr, arith, Ok}
+use Rattle.std.proofs.Common.{is_some, ◌≡◌, ℕ, zero, suc, ◌+◌, ◌-◌, ◌≤◌, Bool, true, false, List, [], ◌∷◌, ◌++◌, sym, refl, ap, ◌∙◌, subst, inl, inr, arith, Ok}
 use Rattle.model.specs.declared.expression.Value.{Value}
 use Rattle.model.specs.declared.line.Axis.{Axis}
 use Rattle.model.specs.declared.line.Motion.{Motion}
 use Rattle.model.specs.declared.line.Axis.TheVariants.{X, Y, Z, U}
-use Rattle.grammar.specs.declared.axes.AxisValues.{AxisValues}
 use Rattle.model.specs.declared.line.Line.{Line}
 use Rattle.grammar.specs.declared.symbol.Symbol.{Symbol}
 use Rattle.grammar.specs.declared.symbol.Symbol.TheVariants.{Digits, Letter}
 use Rattle.grammar.specs.Prefixes.{Lang}
-use Rattle.grammar.specs.Axes.{given, has, put, no_values, has_symbol, tally, count, motion_of, moved}
+use Rattle.grammar.specs.Axes.{AxisValues, has, put, no_values, has_symbol, tally, count, motion_of, moved}
 use Rattle.grammar.specs.Grammar.{ValueIs, WordsAre}
 use Rattle.grammar.specs.Grammar as is
 use Rattle.grammar.proofs.Reading.{bindL, oneL, or_moreL, Lines}
@@ -32,16 +31,16 @@ tally_one b e = ap tally e
 
 -- with four there is no other
 pub full : {P : Type 0} (m : AxisValues) (a : Axis) → count m ≡ 4 → has m a ≡ false → P
-full m X c h = absurd (omega (arith, tally_one (given m.x) h, tally_le (given m.y), tally_le (given m.z), tally_le (given m.u)))
-full m Y c h = absurd (omega (arith, tally_one (given m.y) h, tally_le (given m.x), tally_le (given m.z), tally_le (given m.u)))
-full m Z c h = absurd (omega (arith, tally_one (given m.z) h, tally_le (given m.x), tally_le (given m.y), tally_le (given m.u)))
-full m U c h = absurd (omega (arith, tally_one (given m.u) h, tally_le (given m.x), tally_le (given m.y), tally_le (given m.z)))
+full m X c h = absurd (omega (arith, tally_one (is_some m.x) h, tally_le (is_some m.y), tally_le (is_some m.z), tally_le (is_some m.u)))
+full m Y c h = absurd (omega (arith, tally_one (is_some m.y) h, tally_le (is_some m.x), tally_le (is_some m.z), tally_le (is_some m.u)))
+full m Z c h = absurd (omega (arith, tally_one (is_some m.z) h, tally_le (is_some m.x), tally_le (is_some m.y), tally_le (is_some m.u)))
+full m U c h = absurd (omega (arith, tally_one (is_some m.u) h, tally_le (is_some m.x), tally_le (is_some m.y), tally_le (is_some m.z)))
 
 pub one_more : (m : AxisValues) (a : Axis) (v : Value) (n : ℕ) → has m a ≡ false → suc n + count m ≡ 4 → n + count (put m a v) ≡ 4
-one_more m X v n h c = omega (arith, tally_one (given m.x) h)
-one_more m Y v n h c = omega (arith, tally_one (given m.y) h)
-one_more m Z v n h c = omega (arith, tally_one (given m.z) h)
-one_more m U v n h c = omega (arith, tally_one (given m.u) h)
+one_more m X v n h c = omega (arith, tally_one (is_some m.x) h)
+one_more m Y v n h c = omega (arith, tally_one (is_some m.y) h)
+one_more m Z v n h c = omega (arith, tally_one (is_some m.z) h)
+one_more m U v n h c = omega (arith, tally_one (is_some m.u) h)
 
 none_yet : (a : Axis) → has no_values a ≡ false
 none_yet X = refl

@@ -11,9 +11,8 @@ use Rattle.model.specs.Limits.{limit}
 use Rattle.model.specs.Environments.{Lies, full}
 use Rattle.model.specs.Values.{Values, four}
 use Rattle.model.specs.Written.{WrittenTerm, Written, WrittenCondition, WrittenValues, WrittenLine}
-use Rattle.grammar.specs.declared.axes.AxisValues.{AxisValues}
 use Rattle.grammar.specs.declared.symbol.Symbol.{Symbol}
-use Rattle.grammar.specs.Axes.{put, no_values}
+use Rattle.grammar.specs.Axes.{AxisValues, put, no_values}
 use Rattle.grammar.specs.Grammar.{TermIs, ValueIs, ConditionIs, WordsAre, LineIs}
 use Rattle.grammar.specs.Grammar as is
 use Rattle.grammar.specs.Answer.{Answer, read, refused}

@@ -1,32 +1,26 @@
 -- The values that a move gives its axes, and what a whole line has named: a move its axes, other lines nothing.
-use Rattle.std.specs.Prelude.{ℕ, ◌+◌, Bool, true, false, cond, Some, None, Option, ◌==◌}
+use Rattle.std.specs.Prelude.{ℕ, ◌+◌, Bool, true, false, cond, is_some, Some, None, Option, ◌==◌}
 use Rattle.model.specs.declared.expression.Value.{Value}
 use Rattle.model.specs.declared.line.Axis.{Axis}
-use Rattle.model.specs.declared.line.Axis.TheVariants.{X, Y, Z, U}
 use Rattle.model.specs.declared.line.Motion.{Motion}
 use Rattle.model.specs.declared.line.Motion.TheVariants.{Rapid, Feed}
 use Rattle.model.specs.declared.line.Line.{Line}
 use Rattle.model.specs.declared.line.Line.TheVariants.{Plain, Setting, Move, While, If, EndIf, EndWhile}
-use Rattle.grammar.specs.declared.axes.AxisValues.{AxisValues}
+use Rattle.model.specs.declared.axes.Axes.{Axes}
+use Rattle.model.specs.Axes.{along, replaced}
 use Rattle.grammar.specs.declared.symbol.Symbol.{Symbol}
 use Rattle.grammar.specs.declared.symbol.Symbol.TheVariants.{Fixed, Digits, Long, Letter, Relation, Unknown}
 
-abbrev pub given : Option Value → Bool
-given (Some v) = true
-given None = false
+-- a value for each axis that has one
+abbrev pub AxisValues : Type 0
+AxisValues = Axes (Option Value)
 
 -- whether the axis has a value
 abbrev pub has : AxisValues → Axis → Bool
-has m X = given m.x
-has m Y = given m.y
-has m Z = given m.z
-has m U = given m.u
+has m a = is_some (along a m)
 
 abbrev pub put : AxisValues → Axis → Value → AxisValues
-put m X v = record { x = Some v; y = m.y; z = m.z; u = m.u }
-put m Y v = record { x = m.x; y = Some v; z = m.z; u = m.u }
-put m Z v = record { x = m.x; y = m.y; z = Some v; u = m.u }
-put m U v = record { x = m.x; y = m.y; z = m.z; u = Some v }
+put m a v = replaced a (Some v) m
 
 abbrev pub no_values : AxisValues
 no_values = record { x = None; y = None; z = None; u = None }
@@ -44,7 +38,7 @@ tally true = 1
 tally false = 0
 
 abbrev pub count : AxisValues → ℕ
-count m = tally (given m.x) + tally (given m.y) + tally (given m.z) + tally (given m.u)
+count m = tally (is_some m.x) + tally (is_some m.y) + tally (is_some m.z) + tally (is_some m.u)
 
 -- the symbol is the letter of an axis that has a value
 abbrev pub has_symbol : AxisValues → Symbol → Bool

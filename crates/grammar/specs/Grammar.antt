@@ -14,11 +14,10 @@ use Rattle.model.specs.declared.expression.Condition.{Condition}
 use Rattle.model.specs.declared.line.Axis.{Axis}
 use Rattle.model.specs.declared.line.Line.{Line}
 use Rattle.model.specs.declared.line.Line.TheVariants.{Plain, Setting, While as WhileLine, If as IfLine, EndIf as EndIfLine, EndWhile as EndWhileLine}
-use Rattle.grammar.specs.declared.axes.AxisValues.{AxisValues}
 use Rattle.grammar.specs.declared.symbol.Keyword.TheVariants.{Hash, Open, Close, Plus, Minus, Star, Equals, G, O, While, If, EndIf, EndWhile}
 use Rattle.grammar.specs.declared.symbol.Symbol.{Symbol}
 use Rattle.grammar.specs.declared.symbol.Symbol.TheVariants.{Fixed, Digits, Letter, Relation}
-use Rattle.grammar.specs.Axes.{has, put, no_values, motion_of, moved}
+use Rattle.grammar.specs.Axes.{AxisValues, has, put, no_values, motion_of, moved}
 
 -- the parameters by their numbers, 1 to 6
 abbrev pub parameter_of : ℕ → Parameter

@@ -9,7 +9,6 @@ use Rattle.model.specs.declared.expression.Rel.{Rel}
 use Rattle.model.specs.declared.expression.Condition.{Condition}
 use Rattle.model.specs.declared.line.Axis.{Axis}
 use Rattle.model.specs.declared.line.Motion.{Motion}
-use Rattle.grammar.specs.declared.axes.AxisValues.{AxisValues}
 use Rattle.model.specs.declared.line.Line.{Line}
 use Rattle.model.specs.declared.line.Line.TheVariants.{Plain, Setting, While as WhileLine, If as IfLine, EndIf as EndIfLine, EndWhile as EndWhileLine}
 use Rattle.grammar.specs.declared.symbol.Keyword.{Keyword}
@@ -23,7 +22,7 @@ use Rattle.grammar.specs.declared.symbol.BlockWord.{BlockWord}
 use Rattle.grammar.specs.declared.symbol.BlockWord.TheVariants.{While as while, If as if, EndIf as endif, EndWhile as endwhile}
 use Rattle.grammar.specs.declared.symbol.LineStart.{LineStart}
 use Rattle.grammar.specs.declared.symbol.LineStart.TheVariants.{Setting as setting', Move as move', Block as block'}
-use Rattle.grammar.specs.Axes.{put, no_values, count, motion_of, moved}
+use Rattle.grammar.specs.Axes.{AxisValues, put, no_values, count, motion_of, moved}
 use Rattle.grammar.specs.Grammar.{parameter_of, bare, applied}
 use Rattle.grammar.specs.declared.refusal.Cause.{Cause}
 use Rattle.grammar.specs.Combinators.{Parser, bad, bind, pure, expect, ends, or_more}

@@ -4,7 +4,7 @@ ghost use Rattle.model.specs.Axes.{along, replaced};
 
 use crate::line::Axis;
 
-#[derive(Clone, Copy)]
+#[derive(Clone, Copy, Default)]
 pub struct Axes<T> {
     pub x: T,
     pub y: T,

@@ -5,14 +5,13 @@ use Rattle.model.specs.declared.expression.Value.{Value}
 use Rattle.model.specs.declared.line.Axis.{Axis}
 use Rattle.model.specs.declared.line.Motion.{Motion}
 use Rattle.model.specs.declared.line.Axis.TheVariants.{X, Y, Z, U}
-use Rattle.grammar.specs.declared.axes.AxisValues.{AxisValues}
 use Rattle.model.specs.declared.line.Line.{Line}
 use Rattle.grammar.specs.declared.symbol.Symbol.{Symbol}
 use Rattle.grammar.specs.declared.symbol.Symbol.TheVariants.{Fixed, Digits, Long, Letter, Relation, Unknown}
 use Rattle.grammar.specs.declared.symbol.Item.{Item}
 use Rattle.grammar.specs.declared.refusal.Refusal.{Refusal}
 use Rattle.grammar.specs.declared.refusal.Cause.TheVariants.{Twice}
-use Rattle.grammar.specs.Axes.{given, has, put, has_symbol, count, moved}
+use Rattle.grammar.specs.Axes.{AxisValues, has, put, has_symbol, count, moved}
 use Rattle.grammar.specs.Combinators.{Parser, bad, bind, expect, or_more}
 use Rattle.grammar.specs.Tests.{axis, tried, outcome}
 use Rattle.grammar.specs.Parser.{value, more, more_words}
@@ -22,16 +21,16 @@ use Rattle.grammar.proofs.Moves.{tally_le, tally_one}
 
 -- ---- how many axes are ahead
 pub room : (m : AxisValues) (a : Axis) → has m a ≡ false → count m < 4
-room m X h = omega (arith, tally_one (given m.x) h, tally_le (given m.y), tally_le (given m.z), tally_le (given m.u))
-room m Y h = omega (arith, tally_one (given m.y) h, tally_le (given m.x), tally_le (given m.z), tally_le (given m.u))
-room m Z h = omega (arith, tally_one (given m.z) h, tally_le (given m.x), tally_le (given m.y), tally_le (given m.u))
-room m U h = omega (arith, tally_one (given m.u) h, tally_le (given m.x), tally_le (given m.y), tally_le (given m.z))
+room m X h = omega (arith, tally_one (is_some m.x) h, tally_le (is_some m.y), tally_le (is_some m.z), tally_le (is_some m.u))
+room m Y h = omega (arith, tally_one (is_some m.y) h, tally_le (is_some m.x), tally_le (is_some m.z), tally_le (is_some m.u))
+room m Z h = omega (arith, tally_one (is_some m.z) h, tally_le (is_some m.x), tally_le (is_some m.y), tally_le (is_some m.u))
+room m U h = omega (arith, tally_one (is_some m.u) h, tally_le (is_some m.x), tally_le (is_some m.y), tally_le (is_some m.z))
 
 pub one_less : (m : AxisValues) (a : Axis) (v : Value) → has m a ≡ false → count (put m a v) ≡ suc (count m)
-one_less m X v h = omega (arith, tally_one (given m.x) h)
-one_less m Y v h = omega (arith, tally_one (given m.y) h)
-one_less m Z v h = omega (arith, tally_one (given m.z) h)
-one_less m U v h = omega (arith, tally_one (given m.u) h)
+one_less m X v h = omega (arith, tally_one (is_some m.x) h)
+one_less m Y v h = omega (arith, tally_one (is_some m.y) h)
+one_less m Z v h = omega (arith, tally_one (is_some m.z) h)
+one_less m U v h = omega (arith, tally_one (is_some m.u) h)
 
 pub fewer : (m : AxisValues) (a : Axis) (v : Value) → has m a ≡ false → 4 - count (put m a v) < 4 - count m
 fewer m a v h = omega (arith, room m a h, one_less m a v h)

@@ -48,14 +48,14 @@ impl<'a> Reader<'a> {
             return Ok(axes::moved(motion, values));
         }
         let a = expect::outcome(expect::axis(item.symbol), item.place)?;
-        if axes::has(values, a) {
+        if values.get(a).is_some() {
             return Err(Refusal {
                 cause: Cause::Twice,
                 place: item.place,
             });
         }
         let v = self.value()?;
-        self.more(motion, axes::put(values, a, v))
+        self.more(motion, values.with(a, Some(v)))
     }
 
     // A move, after the G.
@@ -65,7 +65,7 @@ impl<'a> Reader<'a> {
         let g = self.digits(0, 1)?;
         let a = self.expect(expect::axis)?;
         let v = self.value()?;
-        self.more(axes::motion_of(g), axes::put(axes::none(), a, v))
+        self.more(axes::motion_of(g), AxisValues::default().with(a, Some(v)))
     }
 
     // A block line, after its label.

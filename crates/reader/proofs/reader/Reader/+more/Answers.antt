@@ -1,4 +1,4 @@
-use Rattle.std.proofs.Common.{sym, ap, ◌∙◌, arith, rules}
+use Rattle.std.proofs.Common.{is_some, sym, ap, ◌∙◌, arith, rules}
 use Rattle.grammar.specs.Axes.{count}
 use Rattle.grammar.specs.Parser.{more_words}
 use Rattle.grammar.specs.Tests.{outcome}
@@ -11,21 +11,21 @@ returns-in_err-a t c =
     let s = some_symbol c.next-item.result.symbol (search rules) in
     parses_refused (more_words c.args.motion c.args.values) _ _ _ _ c.from_residual.ensures.1 (words_refused c.args.motion c.args.values _ c.next-item.result _ c.next-item.ensures s.0 s.1 _ (c.in_err-a.ensures ∙ ap (λ t. outcome t c.next-item.result.place) c.axis.ensures))
 
-pub returns-then-has : goal.returns-then-has
-returns-then-has t c =
+pub returns-then-is_some : goal.returns-then-is_some
+returns-then-is_some t c =
     let s = some_symbol c.next-item.result.symbol (search rules) in
-    words_twice c.args.motion c.args.values _ c.next-item.result _ c.next-item.ensures s.0 s.1 c.in_ok-a.a (c.in_ok-a.ensures ∙ ap (λ t. outcome t c.next-item.result.place) c.axis.ensures) (sym c.has.ensures ∙ c.if-has.true)
+    words_twice c.args.motion c.args.values _ c.next-item.result _ c.next-item.ensures s.0 s.1 c.in_ok-a.a (c.in_ok-a.ensures ∙ ap (λ t. outcome t c.next-item.result.place) c.axis.ensures) (sym (c.is_some.ensures ∙ ap is_some c.get.ensures) ∙ c.if-is_some.true)
 
 pub returns-in_err-v : goal.returns-in_err-v
 returns-in_err-v t c =
     let s = some_symbol c.next-item.result.symbol (search rules) in
-    parses_refused (more_words c.args.motion c.args.values) _ _ _ _ c.from_residual-in_err-v.ensures.1 (words_stop c.args.motion c.args.values _ c.next-item.result _ c.next-item.ensures s.0 s.1 c.in_ok-a.a (c.in_ok-a.ensures ∙ ap (λ t. outcome t c.next-item.result.place) c.axis.ensures) _ _ (sym c.has.ensures ∙ c.if-has.false) c.in_err-v.ensures)
+    parses_refused (more_words c.args.motion c.args.values) _ _ _ _ c.from_residual-in_err-v.ensures.1 (words_stop c.args.motion c.args.values _ c.next-item.result _ c.next-item.ensures s.0 s.1 c.in_ok-a.a (c.in_ok-a.ensures ∙ ap (λ t. outcome t c.next-item.result.place) c.axis.ensures) _ _ (sym (c.is_some.ensures ∙ ap is_some c.get.ensures) ∙ c.if-is_some.false) c.in_err-v.ensures)
 
 pub more-requires : goal.more-requires
-more-requires t c = omega (arith, c.decreases, ap count c.put.ensures, fewer c.args.values c.in_ok-a.a c.in_ok-v.v (sym c.has.ensures ∙ c.if-has.false))
+more-requires t c = omega (arith, c.decreases, ap count c.with.ensures, fewer c.args.values c.in_ok-a.a c.in_ok-v.v (sym (c.is_some.ensures ∙ ap is_some c.get.ensures) ∙ c.if-is_some.false))
 
 pub returns : goal.returns
 returns t c =
     let s = some_symbol c.next-item.result.symbol (search rules) in
-    words_then c.args.motion c.args.values _ c.next-item.result _ c.next-item.ensures s.0 s.1 c.in_ok-a.a (c.in_ok-a.ensures ∙ ap (λ t. outcome t c.next-item.result.place) c.axis.ensures) c.in_ok-v.v _ _ _ (sym c.has.ensures ∙ c.if-has.false) c.in_ok-v.ensures
-    (parses_same (more_words c.args.motion) _ _ _ _ _ c.put.ensures c.more.ensures)
+    words_then c.args.motion c.args.values _ c.next-item.result _ c.next-item.ensures s.0 s.1 c.in_ok-a.a (c.in_ok-a.ensures ∙ ap (λ t. outcome t c.next-item.result.place) c.axis.ensures) c.in_ok-v.v _ _ _ (sym (c.is_some.ensures ∙ ap is_some c.get.ensures) ∙ c.if-is_some.false) c.in_ok-v.ensures
+    (parses_same (more_words c.args.motion) _ _ _ _ _ c.with.ensures c.more.ensures)
