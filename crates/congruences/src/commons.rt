@@ -11,7 +11,8 @@ use divisibility::equations::solve;
 use divisibility::euclid::lcm;
 use divisibility::remainders::{divides, remainder};
 
-// How far y's residue lies above x's, modulo y's modulus.
+// How far y's residue lies above x's, modulo y's modulus. That y is no single number is known in `common` alone, which asks for
+// these three: a type for it would be made there and taken apart here.
 fn gap(x: Congruence, y: Congruence) -> u64
     requires { 0 < y.modulus }
     ensures below { result < y.modulus }

@@ -1,4 +1,4 @@
-// A travel that is one of two.
+// A travel that is one of two. It is a type of its own: a crate can give another crate's trait to its own types only.
 ghost use Rattle.either_travel.specs.Eithers.{either};
 ghost use Rattle.either_travel.specs.declared.either.Either.TheVariants.{First, Second};
 

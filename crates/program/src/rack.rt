@@ -1,4 +1,4 @@
-// A list of at most N items in fixed memory.
+// A list of at most N items in fixed memory. It is Copy, as a program is, which the library's lists are not.
 ghost use Rattle.std.specs.Prelude.{◌≡◌, ◌≤◌, length, ⊤};
 
 use std::alloc::AllocError;

@@ -33,6 +33,7 @@ pub enum Stepped {
     Fault,
 }
 
+// The result that a value gives, if there is a value; none at all where it faults. A Result would need an error that says nothing.
 fn worked(registers: &[i32; REGISTERS], v: Option<Value>) -> Option<Option<i32>>
     ensures { result ≡ worked registers.now v }
 {

@@ -11,8 +11,7 @@ ghost use Rattle.session.specs.Memory.{memory, blank, after_line, after_allow};
 use crate::ranges::Ranges;
 use crate::refusal::{AllowRefusal, DryRefusal};
 use model::ending::Ending;
-use model::expression::LIMIT;
-use model::range::Range;
+use model::range::{Range, fits};
 use model::register::PARAMETERS;
 use program::refusal::LineRefusal;
 use program::table::Program;
@@ -29,16 +28,10 @@ pub struct Session<T> {
     ranges: Ranges,
 }
 
-fn fits(v: i32) -> bool
-    ensures { result ≡ fit v }
-{
-    (-LIMIT..=LIMIT).contains(&v)
-}
-
 fn all_fit(values: &[i32]) -> bool
     ensures { result ≡ list_all fit values.now }
 {
-    values.iter().all(|v| fits(*v))
+    values.iter().all(|v| fits(*v as i64))
 }
 
 impl<T: Travel> Session<T> {

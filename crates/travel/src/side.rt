@@ -14,6 +14,7 @@ pub fn holds(side: Side, p: Position) -> bool
     sum_at_most(side.a, v, side.b, w, side.c)
 }
 
+// A travel tells its sides by number, so the loop goes through numbers.
 pub fn lowest_broken<T: Travel>(travel: &T, p: Position) -> Option<usize>
     ensures { result ≡ lowest (kept p) 0 (T.sides travel.now) }
 {

@@ -52,6 +52,8 @@ impl Program {
         is_ended_by(self.blocks.as_slice()[number], kind, label).then_some(number)
     }
 
+    // Each of the three ways to grow leaves lines and blocks in agreement, so each is told that there is room, and adds the line itself.
+
     // Adds a line that is no block's first or end.
     fn keep(&mut self, line: Line)
         requires room { length (held self.old) < max_lines }
