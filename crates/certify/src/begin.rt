@@ -5,9 +5,9 @@ ghost use Rattle.domain.specs.Lattice.{single};
 ghost use Rattle.sweep.specs.Starts.{start};
 
 use domain::domain::Domain;
+use model::axes::Position;
 use model::line::Axis;
 use model::range::Range;
-use model::axes::Position;
 use model::register::{AXES, PARAMETERS, Register};
 
 // The axis has this number alone.

@@ -23,6 +23,7 @@ pub enum CertifyRefusal {
 }
 
 impl CertifyRefusal {
+    // Not a From: `u32::from` would not say which number.
     pub fn number(self) -> u32
         ensures { result ≡ certify_number self }
     {

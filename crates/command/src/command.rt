@@ -72,6 +72,7 @@ fn gantry(text: &[u8]) -> Option<Command>
     Some(Command::Gantry(ends_of(&numbers::<12>(text)?)))
 }
 
+// It differs from the gantry in its count, its variant and the gap: one function would take all three.
 fn beam(text: &[u8]) -> Option<Command>
     ensures { option_map meant result ≡ as_beam (numbers_of 13 (arguments text.now)) }
 {

@@ -10,6 +10,7 @@ use model::expression::LIMIT;
 use model::range::{EMPTY, Range};
 
 impl Congruence {
+    // First and last mirror each other: one function would take the order and the sign of the step.
     fn first(self, lo: i32) -> i64
         ensures { result ≡ first self lo }
     {

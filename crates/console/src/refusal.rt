@@ -37,6 +37,7 @@ impl From<LineRefusal> for Refusal {
 }
 
 impl Refusal {
+    // Not a From: `u32::from` would not say which number.
     pub(crate) fn number(self) -> u32
         ensures { result ≡ refusal_number self }
     {

@@ -50,6 +50,7 @@ impl From<DryRefusal> for Refusal {
 }
 
 impl Refusal {
+    // Not a From: `u32::from` would not say which number.
     fn number(self) -> u32
         ensures { result ≡ refusal_number self }
     {

@@ -29,6 +29,7 @@ pub struct Block {
     pub end: Option<usize>,
 }
 
+// Not a From, which would say that a role is a line put otherwise: it is what is left of one.
 pub fn role_of(line: Line) -> Role
     ensures { result ≡ role_of line }
 {

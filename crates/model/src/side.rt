@@ -30,6 +30,7 @@ pub enum Factor {
     Minus,
 }
 
+// A sign is no factor of zero: two short matches are plainer than a conversion and its lemma.
 impl Factor {
     pub fn times(self, n: i64) -> i64
         requires { unsigned_abs n < 2 ^ 63 }

@@ -42,6 +42,7 @@ impl From<TableRefusal> for LineRefusal {
 }
 
 impl LineRefusal {
+    // Not a From: `u32::from` would not say which number.
     pub fn number(self) -> u32
         ensures { result ≡ line_number self }
     {

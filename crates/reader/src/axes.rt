@@ -18,7 +18,7 @@ pub fn moved(motion: Motion, values: AxisValues) -> Line
     }
 }
 
-// G0 or G1.
+// G0 or G1. A TryFrom would bring an error that cannot come after the test of the digits.
 pub fn motion_of(g: u32) -> Motion
     ensures { result ≡ motion_of g }
 {

@@ -11,6 +11,7 @@ pub enum AllowRefusal {
 }
 
 impl AllowRefusal {
+    // Not a From: `u32::from` would not say which number.
     pub fn number(self) -> u32
         ensures { result ≡ allow_number self }
     {
@@ -32,6 +33,7 @@ pub enum DryRefusal {
 }
 
 impl DryRefusal {
+    // Not a From: `u32::from` would not say which number.
     pub fn number(self) -> u32
         ensures { result ≡ dry_number self }
     {

@@ -11,6 +11,7 @@ pub enum TravelRefusal {
 }
 
 impl TravelRefusal {
+    // Not a From: `u32::from` would not say which number.
     pub fn number(self) -> u32
         ensures { result ≡ travel_number self }
     {

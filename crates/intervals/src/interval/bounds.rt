@@ -1,4 +1,5 @@
-// How large a signed number of an interval can be.
+// How large a signed number of an interval can be. A sign is no factor of zero: two short matches are plainer than a conversion
+// and its lemma.
 ghost use Rattle.std.specs.Prelude.{◌≡◌};
 ghost use Rattle.intervals.specs.Bounds.{most_signed, most_scaled};
 

@@ -13,6 +13,7 @@ pub(crate) struct Ends {
     pub hi: i64,
 }
 
+// The least and the greatest of four: a function of the way to choose would be longer than the two.
 fn least(a: i64, b: i64, c: i64, d: i64) -> i64
     ensures { result ≡ least a b c d }
 {

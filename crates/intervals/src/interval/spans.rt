@@ -17,7 +17,7 @@ pub(crate) fn made(lo: i64, hi: i64) -> Option<Interval>
     }
 }
 
-// A lower end that fell goes as low as it can.
+// A lower end that fell goes as low as it can. The upper end mirrors it: one function would take the order and the limit.
 pub(crate) fn widened_down(old: i64, new: i64) -> i64
     ensures { result ≡ down_to (int_lt new old) old }
 {

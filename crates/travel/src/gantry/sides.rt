@@ -22,6 +22,7 @@ fn other(v: Axis) -> Axis
     }
 }
 
+// Two functions: one for both would take a sign, and cast what the sign makes of the end.
 fn at_most(v: Axis, upper: i32) -> Side
     ensures { result ≡ at_most v upper }
 {
