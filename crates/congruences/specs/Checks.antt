@@ -1,6 +1,7 @@
 -- What `checked` gives, and when two numbers make a class.
-use Rattle.std.specs.Prelude.{◌≡◌, ℕ, Bool, true, false, ℤ, ◌-ℤ◌, Some, None, refl}
+use Rattle.std.specs.Prelude.{◌≡◌, ℕ, Bool, true, false, ◌&&◌, ℤ, pos, negsuc, ◌-ℤ◌, ◌<ℤ◌, Some, None, int_le, refl}
 use Rattle.std.proofs.Common.{◌∙◌, ap, ap₂, sym, arith}
+use Rattle.std.proofs.lemmas.Int.{ints}
 use Rattle.divisibility.specs.Multiples.{Multiple}
 use Rattle.congruences.specs.Members.{InSome}
 use Rattle.congruences.specs.Settled.{checked, pick}
@@ -46,3 +47,16 @@ pick_out m r v false e h = elim h [ ]
 pub checked_out : (m : ℕ) (r v : ℤ) → InSome v (checked m r) → Multiple m (v -ℤ r)
 unfolding checked
 checked_out m r v h = pick_out m r v (proper m r) refl h
+
+pub le_no : (a b : ℤ) → b <ℤ a → int_le a b ≡ false
+le_no a b h = grind (arith, ints)
+
+pub and_no : (b : Bool) → (b && false) ≡ false
+and_no true = refl
+and_no false = refl
+
+pub single_low : (r : ℤ) → r <ℤ negsuc 9999999 → proper 0 r ≡ false
+single_low r h = rw (le_no (negsuc 9999999) r h)
+
+pub single_high : (r : ℤ) → pos 10000000 <ℤ r → proper 0 r ≡ false
+single_high r h = rw (le_no r (pos 10000000) h) (and_no (int_le (negsuc 9999999) r))

@@ -1,6 +1,6 @@
 -- Narrowing keeps every member in its range, and a range of a congruence leaves none out.
 use Rattle.std.specs.Prelude.{◌≡◌, Bool, true, false, cond, ◌⊎◌, ℤ, pos, negsuc, ◌-ℤ◌, ◌≤ℤ◌, Some, None, Option, refl}
-use Rattle.std.proofs.Common.{inl, inr, arith}
+use Rattle.std.proofs.Common.{inl, inr, ◌∙◌, ap, subst, sym, arith}
 use Rattle.std.proofs.lemmas.Int.{clamps, ints}
 use Rattle.model.specs.Environments.{Lies, full}
 use Rattle.model.specs.Values.{same}
@@ -80,3 +80,9 @@ in_by c z e v (inr f) h a b = absurd (f.0 v h a b)
 
 pub ranged_in : (c : Congruence) (z : Range) (v : ℤ) → Lies v full → In v c → Lies v z → Lies v (ranged c z)
 ranged_in c z v l h k = in_by c z (ranged c z) v (ranged_found c z) h (cut_low v z l k) (cut_high v z l k)
+
+-- what was found is a range's
+pub found_of : (c : Congruence) (z e : Range) (o : Option Range) → o ≡ ends c (lower z) (upper z) → e ≡ or_empty o → (e ≡ ranged c z) × Found c z e
+found_of c z e o p q =
+    let r : e ≡ ranged c z = q ∙ ap or_empty p in
+    (r, subst (Found c z) (sym r) (ranged_found c z))

@@ -1,6 +1,7 @@
 -- The least and the greatest member of a congruence in a range.
 use Rattle.std.specs.Prelude.{◌≡◌, cond, ◌&&◌, ◌⊎◌, ℤ, pos, ◌+ℤ◌, ◌-ℤ◌, neg_ℤ, ◌≤ℤ◌, Some, None, Option, int_le}
 use Rattle.std.specs.Int.{int_min, int_max}
+use Rattle.std.specs.Option.{unwrap_or}
 use Rattle.model.specs.declared.range.Range.{Range}
 use Rattle.model.specs.Limits.{limit}
 use Rattle.model.specs.Values.{same}
@@ -30,8 +31,7 @@ abbrev pub upper : Range → ℤ
 upper z = int_min z.hi (pos limit)
 
 abbrev pub or_empty : Option Range → Range
-or_empty None = empty
-or_empty (Some e) = e
+or_empty o = unwrap_or o empty
 
 -- from the least to the greatest member in a range
 abbrev pub ranged : Congruence → Range → Range

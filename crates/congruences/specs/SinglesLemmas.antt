@@ -8,6 +8,9 @@ use Rattle.congruences.specs.declared.congruence.Congruence.{Congruence}
 use Rattle.congruences.specs.Checks.{checked_some}
 use Rattle.congruences.specs.Proper.{proper_single}
 
+pub clamped_lies : (n : ℤ) → Lies (clamped n) full
+clamped_lies n = record { low = omega (arith, ints, clamps); high = omega (arith, ints, clamps) }
+
 -- what has modulus 0 and that residue is the single number
 pub single_made : (n : ℤ) (c : Congruence) → c.modulus ≡ 0 → c.residue ≡ clamped n → c ≡ single n
 single_made n c p q = sym (ap or_whole (checked_some 0 (clamped n) c p q))

@@ -4,6 +4,7 @@ pub mod Axes
 pub mod Sides
 pub mod Environments
 pub mod Values
+pub mod Products
 pub mod Opposites
 pub mod Written
 pub mod Programs
