@@ -1,2 +1,3 @@
 pub mod Digits
 pub mod Searches
+pub mod NumberTexts
