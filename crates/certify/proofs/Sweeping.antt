@@ -1,7 +1,6 @@
 -- The loop over the lines makes the sweep, and the loop over sweeps comes to the one that judges.
-use Rattle.std.proofs.Common.{◌≡◌, ℕ, suc, ◌+◌, ◌<◌, ◌≤◌, true, false, List, length, get_or, take, fold, sym, ap, ◌∙◌, subst, add-one, arith}
+use Rattle.std.proofs.Common.{◌≡◌, ℕ, suc, ◌<◌, ◌≤◌, true, false, List, length, take, fold, sym, ap, ◌∙◌, subst, arith}
 use Rattle.std.proofs.lemmas.List.{take_all}
-use Rattle.std.proofs.lemmas.List.Sums.{fold_more}
 use Rattle.model.specs.declared.line.Line.{Line}
 use Rattle.model.specs.declared.side.Side.{Side}
 use Rattle.domain.specs.Lattice.{Lattice, Lawful}
@@ -16,14 +15,6 @@ use Rattle.certify.specs.declared.pass.Pass.{Pass}
 use Rattle.certify.specs.Passes.{sweeping}
 
 module _ {S : Type 0} (l : Lattice S) (bs : Blocks) (sides : List Side) where
-  pub one_line : (w : Sweep S) (lines : List Line) (i : ℕ) (d : Line) (s t : List S) (p q : Pass S) → i < length lines →
-      sweeping s p (suc i) ≡ fold (line_step l bs sides) w (take i lines) →
-      sweeping t q (suc (i + 1)) ≡ line_step l bs sides (sweeping s p (i + 1)) (get_or lines i d) →
-      sweeping t q (suc (i + 1)) ≡ fold (line_step l bs sides) w (take (i + 1) lines)
-  one_line w lines i d s t p q h e f =
-      let same : sweeping s p (i + 1) ≡ sweeping s p (suc i) = ap (sweeping s p) (add-one i) in
-      f ∙ (ap (λ (v : Sweep S). line_step l bs sides v (get_or lines i d)) (same ∙ e) ∙ sym (fold_more (line_step l bs sides) w lines i d h))
-
   pub all_lines : (begin : S) (store : List S) (lines held : List Line) (i : ℕ) (s : List S) (p : Pass S) → lines ≡ held → length lines ≤ i → i ≤ length lines →
       sweeping s p (suc i) ≡ fold (line_step l bs sides) (fresh l begin store) (take i lines) →
       sweeping s p (suc (length held)) ≡ sweep l bs sides held begin store

@@ -46,7 +46,7 @@ pub(crate) fn set_axes<D: Domain>(state: D, values: &[Option<Value>; AXES]) -> D
     after
 }
 
-// The lowest side that the state does not show.
+// The lowest side that the state does not show. A sweep goes through the sides in a loop of its own, as it does through axes and lines.
 pub(crate) fn lowest_unshown<D: Domain, T: Travel>(state: &D, travel: &T) -> Option<usize>
     ensures { result ≡ lowest (D.lattice.shows state.now) 0 (T.sides travel.now) }
 {

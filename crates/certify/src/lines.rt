@@ -51,11 +51,7 @@ fn set_parameter<D: Domain>(
     ensures failing { result.failing ≡ first pass.failing (failure line (if D.lattice.sure pass.current value.expression then None else Some Cause.Arithmetic)) }
     ensures hulls { result.hulls ≡ pass.hulls }
 {
-    let cause = if pass.current.sure(value.expression) {
-        None
-    } else {
-        Some(Cause::Arithmetic)
-    };
+    let cause = (!pass.current.sure(value.expression)).then_some(Cause::Arithmetic);
     Pass {
         current: pass.current.set(parameter.into(), value.expression),
         failing: first_failure(pass.failing, line, cause),

@@ -39,7 +39,7 @@ pub(crate) fn stored<D: Domain>(store: &[D], place: usize) -> D
 pub(crate) fn put<D: Domain>(store: &mut [D], place: usize, state: D)
     ensures { store.new ≡ slice_set store.old place state }
 {
-    // what a generic slice holds after a write through get_mut stays open in the proof
+    // No shorter by get_mut, and what a generic slice holds after a write through that stays open in the proof.
     if place < store.len() {
         store[place] = state;
     }

@@ -35,6 +35,7 @@ pub enum Command<'a> {
         range: Range,
     },
     Wipe,
+    // the arguments of a session's call, as they are
     Dry {
         values: [i32; PARAMETERS],
         steps: u32,

@@ -11,9 +11,8 @@ impl Congruence {
         ensures { result ≡ settles factor self }
     {
         match factor {
-            Factor::Plus => self.modulus == 0,
+            Factor::Plus | Factor::Minus => self.modulus == 0,
             Factor::Zero => true,
-            Factor::Minus => self.modulus == 0,
         }
     }
 

@@ -22,14 +22,11 @@ impl Congruence {
     fn unless(self, rel: Rel, other: Congruence) -> Option<Pair<Congruence>>
         ensures { result ≡ unless rel self other }
     {
-        if self.fails(rel, other) {
-            None
-        } else {
-            Some(Pair {
-                left: self,
-                right: other,
-            })
-        }
+        let pair = Pair {
+            left: self,
+            right: other,
+        };
+        (!self.fails(rel, other)).then_some(pair)
     }
 
     // What a condition leaves of its two sides, or None where no pair meets it.

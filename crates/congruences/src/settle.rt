@@ -1,4 +1,4 @@
-// Congruences from any modulus and any residue.
+// Congruences from any modulus and any residue. The two go side by side, for they are no congruence yet.
 ghost use Rattle.std.specs.Prelude.{◌≡◌, ◌*◌, ◌<◌, ◌≤◌, pos, ◌≤ℤ◌};
 ghost use Rattle.model.specs.Limits.{limit};
 ghost use Rattle.divisibility.specs.Multiples.{remainder};

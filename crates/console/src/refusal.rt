@@ -50,7 +50,7 @@ impl Refusal {
         }
     }
 
-    // The place in the line, or 0 where there is none.
+    // The place in the line, or 0 where there is none: that is how it is printed.
     pub(crate) fn place(self) -> usize
         ensures { result ≡ refusal_place self }
     {

@@ -12,7 +12,7 @@ pub struct Summary {
     pub blocks: usize,
 }
 
-// The number of the line that is refused, or 0 where none of the program is, and why.
+// The number of the line that is refused, or 0 where none of the program is, as it is printed, and why.
 #[derive(Clone, Copy)]
 pub struct Rejection {
     pub line: usize,

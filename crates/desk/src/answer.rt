@@ -9,6 +9,7 @@ use session::refusal::{AllowRefusal, DryRefusal};
 use std::fmt;
 use travel::refusal::TravelRefusal;
 
+// Not the console's, which has other refusals beside the two in common and prints a place always.
 #[derive(Clone, Copy)]
 pub enum Refusal {
     Travel(TravelRefusal),

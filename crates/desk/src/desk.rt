@@ -18,7 +18,7 @@ use travel::travel::Travel;
 // The tables that a script may name.
 pub type Table = Either<Gantry, Beam>;
 
-// A call of a session.
+// A call of a session; a command that names a table is none.
 fn call<T: Travel>(session: &mut Session<T>, n: usize, command: Command) -> Result<Answer, Refusal>
     ensures serves { Calls (T.sides session.old.travel) (T.origin session.old.travel) (memory session.old) n (meant command.entry) (said_or_why result) (memory session.new) }
     ensures travel { session.new.travel ≡ session.old.travel }
@@ -37,6 +37,7 @@ fn call<T: Travel>(session: &mut Session<T>, n: usize, command: Command) -> Resu
     Ok(Answer::Done)
 }
 
+// A constant's value is written out: it cannot name a part of another.
 const BENCH_GANTRY: Ends = Ends {
     lower: Position {
         x: 0,

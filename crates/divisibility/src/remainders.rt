@@ -16,5 +16,5 @@ pub fn remainder(z: i64, m: u64) -> i64
 pub fn divides(n: u64, m: u64) -> bool
     ensures { result ≡ divides n m }
 {
-    if n == 0 { m == 0 } else { m % n == 0 }
+    m.is_multiple_of(n)
 }

@@ -1,4 +1,5 @@
-// Two domains side by side: a state means what both of its sides mean.
+// Two domains side by side: a state means what both of its sides mean. One function for the operations that go side by side would be
+// handed each operation twice, once for each side's type.
 ghost use Rattle.std.specs.Prelude.{◌≡◌, ◌+◌, ◌%◌, ◌^◌, ◌&&◌};
 ghost use Rattle.model.specs.Environments.{registers};
 ghost use Rattle.domain.specs.Pairs.{pair, PairTracks, reduce, reduce_at};
@@ -39,6 +40,7 @@ impl<A: Domain, B: Domain> Product<A, B> {
         ensures { result ≡ reduce A.Domain.lattice B.Domain.lattice registers self }
     {
         let mut state = self;
+        // A register is made of its number.
         for index in 0..REGISTERS {
             state = state.reduced_at(Register { index });
         }

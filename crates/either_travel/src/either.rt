@@ -1,4 +1,5 @@
-// A travel that is one of two. It is a type of its own: a crate can give another crate's trait to its own types only.
+// A travel that is one of two. It is a type of its own: the trait of another crate can be given to own types only, and
+// `travel` needs no library for it.
 ghost use Rattle.either_travel.specs.Eithers.{either};
 ghost use Rattle.either_travel.specs.declared.either.Either.TheVariants.{First, Second};
 

@@ -11,7 +11,7 @@ use model::range::{EMPTY, Range};
 use model::register::Register;
 use model::side::Side;
 
-// Fresh and stale both mean every environment.
+// Fresh and stale both mean every environment. Not an Option of the two: none is a state like them.
 #[derive(Clone, Copy)]
 pub enum Fickle {
     None,

@@ -1,7 +1,6 @@
 -- What the tests of a token say of it: each test is lawful, and a token that passes is one of those that the test names.
-use Rattle.std.proofs.Common.{◌≡◌, ℕ, ◌≤◌, Bool, true, false, cond, ◌&&◌, leb, ◌⊎◌, List, [], ◌∷◌, sym, refl, ap, ◌∙◌, subst, inl, inr, ⊎_elim, arith, rules, Ok, Err, Result}
-use denote.Enum.Bare.{same_true}
-use Rattle.grammar.specs.contracts.symbol.Keyword.{the_type}
+use Rattle.std.proofs.Common.{◌≡◌, ℕ, ◌≤◌, Bool, true, false, cond, ◌&&◌, leb, ◌⊎◌, List, [], ◌∷◌, sym, refl, ap, ◌∙◌, subst, inl, inr, ⊎_elim, arith, Ok, Err, Result}
+use Rattle.grammar.specs.Equality.{same_word}
 use Rattle.std.proofs.lemmas.Bool.Decides.{nat_tests}
 use Rattle.model.specs.declared.line.Axis.{Axis}
 use Rattle.model.specs.declared.line.Axis.TheVariants.{X}
@@ -27,10 +26,6 @@ same_ok e = cc
 
 pub same_err : {A : Type 0} {c d : Cause} → ◌≡◌ {A = Result A Cause} (Err c) (Err d) → c ≡ d
 same_err e = cc
-
--- ---- keywords by the derived equality
-same_word : (u w : Keyword) → same_keyword u w ≡ true → u ≡ w
-same_word u w e = same_true the_type (search rules) u w e
 
 -- u stands in the table, with a
 abbrev pub In : {A : Type 0} → List (Keyword × A) → Keyword → A → Type 0

@@ -3,6 +3,7 @@ pub mod Symbols
 pub mod Grammar
 pub mod Prefixes
 pub mod Tests
+pub mod Equality
 pub mod Causes
 pub mod Combinators
 pub mod Parser

@@ -11,7 +11,7 @@ use Rattle.grammar.specs.declared.refusal.Cause.{Cause}
 use Rattle.grammar.specs.declared.refusal.Cause.TheVariants.{Unexpected, Limit}
 use Rattle.grammar.specs.declared.refusal.Refusal.{Refusal}
 
--- the two are one keyword
+-- the two are one keyword; Equality shows that it is so exactly where they are
 abbrev pub same_keyword : Keyword → Keyword → Bool
 same_keyword u w = equality.eq-value.it u w
 

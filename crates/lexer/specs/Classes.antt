@@ -12,7 +12,7 @@ between lo hi b = nat_le lo b && nat_le b hi
 abbrev pub class : ℕ → Class
 class b = cond (between 65 90 b || between 97 122 b) Letter (cond (between 48 57 b) Digit (cond (b == 32) Blank Mark))
 
--- the two are one class
+-- the two are one class; Equality shows that it is so exactly where they are
 abbrev pub same : Class → Class → Bool
 same j k = equality.eq-value.it j k
 

@@ -24,7 +24,7 @@ impl From<u8> for Class {
     }
 }
 
-// How many bytes at the front are of the class.
+// How many bytes at the front are of the class. One line, as in the crates above: a function of the test would be as long.
 pub(crate) fn run_len(s: &[u8], k: Class) -> usize
     ensures is { result ≡ run k s.now }
     ensures within { result ≤ length s.now }

@@ -2,7 +2,7 @@
 ghost use Rattle.std.specs.Prelude.{◌≡◌, ◌≤◌, length};
 ghost use Rattle.std.specs.Str.Parse.{digits_value, AllDigits};
 
-// The number that at most eight digits write.
+// The number that at most eight digits write. A loop, since each step's bound stands in its invariant.
 pub fn number(s: &[u8]) -> u32
     requires { (AllDigits 10 s.now) × (length s.now ≤ 8) }
     ensures is { result ≡ digits_value 10 s.now }

@@ -11,7 +11,7 @@ pub enum BlockKind {
     If,
 }
 
-// A line opens a block under a condition, ends one, or does neither.
+// A line opens a block under a condition, ends one, or does neither: a third way to grow, and no missing role.
 #[derive(Clone, Copy)]
 pub enum Role {
     Opens(BlockKind, u16, Condition),

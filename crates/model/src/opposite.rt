@@ -22,7 +22,6 @@ pub fn opposite_of(condition: Condition) -> Condition
 {
     Condition {
         rel: against(condition.rel),
-        left: condition.left,
-        right: condition.right,
+        ..condition
     }
 }

@@ -45,7 +45,7 @@ impl Factor {
     }
 }
 
-// The half-space a·v + b·w ≤ c. Where b is zero, w is any axis other than v.
+// The half-space a·v + b·w ≤ c. Where b is zero, w is any axis other than v: a side always names two, so b and w are no Option.
 #[derive(Clone, Copy)]
 pub struct Side {
     pub a: Sign,
@@ -55,7 +55,7 @@ pub struct Side {
     pub c: i32,
 }
 
-// Whether a·v + b·w ≤ c.
+// Whether a·v + b·w ≤ c. It takes the parts of a side, since sets of numbers have no axes.
 pub fn sum_at_most(a: Sign, v: i64, b: Factor, w: i64, c: i32) -> bool
     requires v { unsigned_abs v ≤ 2 ^ 31 }
     requires w { unsigned_abs w ≤ 2 ^ 31 }

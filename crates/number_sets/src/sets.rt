@@ -53,7 +53,7 @@ pub trait NumberSet: Copy {
     fn inside(self, other: Self) -> bool
         ensures { result ≡ sets.inside self other };
 
-    // a·v + b·w ≤ c for all numbers v of this set and w of the other
+    // a·v + b·w ≤ c for all numbers v of this set and w of the other; not a whole side, for sets know no axes
     fn bounds(self, a: Sign, b: Factor, other: Self, c: i32) -> bool
         ensures { result ≡ sets.bounds a self b other c };
 

@@ -1,4 +1,4 @@
--- The steps of the loops that go over all registers, and one register written.
+-- What tables hold, entry by entry, and one register written.
 use Rattle.std.proofs.Common.{zero, suc, subst, ◌≡◌, ℕ, ◌<◌, Bool, true, false, cond, eqb, ◌≢◌, List, length, get_or, set, sym, refl, ap, ◌∙◌, arith, length-set, get_or-set_other, get_or-set_same}
 use Rattle.std.proofs.lemmas.List.{same_lists, get_or_default}
 use Rattle.std.proofs.lemmas.Bool.{eqb-true, eqb-false, and_from}

@@ -225,6 +225,6 @@ module _ {V : Type 0} (a : NumberSets V) (p : LawfulSets a) (n : ℕ) (enough : 
 pub registers_named : named ≤ registers
 registers_named = omega arith
 
--- the rank of none over all registers, of sets that can be widened at most so often; it is far below 2^64
+-- the rank of none over all registers, of sets that can be widened at most so often
 pub none_ranked : {V : Type 0} (a : NumberSets V) (most : ℕ) → most ≡ a.most → (most * registers + 1) % 2 ^ 64 ≡ rank a registers opt.None % 2 ^ 64
 none_ranked a most h = ap (λ (m : ℕ). (m * registers + 1) % 2 ^ 64) h

@@ -1,5 +1,5 @@
 // States that hold one set of numbers for each register.
-ghost use Rattle.std.specs.Prelude.{◌≡◌, ◌+◌, ◌*◌, ◌%◌, ◌^◌, ◌<◌, true, Some};
+ghost use Rattle.std.specs.Prelude.{◌≡◌, ◌+◌, ◌*◌, ◌%◌, ◌^◌, true, Some};
 ghost use Rattle.model.specs.Environments.{registers};
 ghost use Rattle.pointwise.specs.States.{put, kept_registers, kept_sides, keep, merged, pointwise};
 ghost use Rattle.pointwise.specs.Tables.{Computes};
@@ -95,9 +95,10 @@ fn merged<V: NumberSet, F: Fn(V, V) -> V>(
     }
 }
 
-// Each operation matches on what is there: a closure of a generic function needs clauses of its own, which are longer.
+// Each operation matches on what is there. Tried: `is_none_or` and `map_or`; of a closure in a generic function the proof knows only
+// the clauses that are written on it, and those are longer than the arms.
 impl<V: NumberSet> Domain for Pointwise<V> {
-    // each register's set can be widened so often
+    // one above what all sets together can be widened
     const NONE_RANK: u64 = V::MOST_WIDENINGS as u64 * REGISTERS as u64 + 1;
 
     ghost NONE_RANK = { (V.NumberSet.MOST_WIDENINGS * registers + 1) % 2 ^ 64 };

@@ -13,6 +13,7 @@ pub(crate) struct Rack<T, const N: usize> {
     ghost whole: { length places ≡ N },
 }
 
+// By hand: no derive goes over the ghost field of a generic struct.
 impl<T: Copy, const N: usize> Clone for Rack<T, N> {
     ghost is_clone = { λ x y. y ≡ x };
 

@@ -1,4 +1,4 @@
-// The axes of a move, word by word.
+// A move from the values of its axes, and its motion from its digit.
 ghost use Rattle.std.specs.Prelude.{◌≡◌};
 ghost use Rattle.grammar.specs.Axes.{motion_of, moved};
 
@@ -9,13 +9,8 @@ use model::line::{Line, Motion};
 pub fn moved(motion: Motion, values: AxisValues) -> Line
     ensures { result ≡ moved motion values }
 {
-    Line::Move {
-        motion,
-        x: values.x,
-        y: values.y,
-        z: values.z,
-        u: values.u,
-    }
+    let AxisValues { x, y, z, u } = values;
+    Line::Move { motion, x, y, z, u }
 }
 
 // G0 or G1. A TryFrom would bring an error that cannot come after the test of the digits.

@@ -80,6 +80,7 @@ pub fn only(t: Option<Symbol>, k: Keyword) -> Result<Keyword, Cause>
     }
 }
 
+// A test for each variant: one for both would take the pattern.
 pub fn axis(t: Option<Symbol>) -> Result<Axis, Cause>
     ensures { result ≡ tried axis t }
 {

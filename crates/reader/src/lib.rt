@@ -25,7 +25,7 @@ fn allowed(b: u8) -> bool
     b.is_ascii_graphic() || b == b' '
 }
 
-// How many bytes at the front are allowed.
+// How many bytes at the front are allowed. One line: a function of the test would be as long.
 fn clear_len(text: &[u8]) -> usize
     ensures is { result ≡ clear text.now }
     ensures within { result ≤ length text.now }

@@ -1,4 +1,4 @@
-// The reader of a line over its lexer: each symbol that is expected.
+// The reader of a line over its lexer: one method takes the test of the symbol that is expected.
 ghost use Rattle.std.specs.Prelude.{◌≡◌, ◌≤◌, IfOk};
 ghost use Rattle.reader.specs.Parses.{Parses, Takes, Expects};
 ghost use Rattle.grammar.specs.Combinators.{expect};

@@ -41,7 +41,8 @@ fn outlook(run: &Run, program: &Program) -> Ending
     }
 }
 
-// What at most so many steps from home come to, in a closed program.
+// What at most so many steps from home come to, in a closed program; a type for closed programs would ask more of callers. The loop
+// counts steps, of which its invariant speaks.
 pub fn dry<T: Travel>(
     program: &Program,
     travel: &T,

@@ -80,7 +80,7 @@ impl Run {
         }
     }
 
-    // The number of the line under the run, from 1.
+    // The number of the line under the run, from 1; 0 where there is no run.
     pub fn line_number(&self, program: &Program) -> usize
         ensures { result ≡ number (held program.now) self.now.at }
     {
@@ -178,6 +178,7 @@ impl Run {
                 let u = worked(&self.registers, u)?;
                 self.travel(n + 1, x, y, z, u)
             }
+            // Tried: one arm for both kinds leaves the proof without which line it is.
             (Some(n), Some(Line::While { label, condition })) => {
                 self.turn(program, n + 1, label, condition)
             }

@@ -16,7 +16,8 @@ pub struct Ranges {
     ghost whole: { length each ≡ parameters },
 }
 
-// Whether the parameter, from 1, may be allowed the range.
+// Whether the parameter, from 1, may be allowed the range. It is given by its number, since numbers of no parameter are refused here;
+// no struct goes round the two, for a script and an input read the number in other types.
 pub fn check_range(parameter: u32, range: Range) -> Result<(), AllowRefusal>
     ensures says { allow_said result ≡ allow_answer parameter range }
     ensures known { OnOk result ((1 ≤ parameter) × (parameter ≤ parameters)) }

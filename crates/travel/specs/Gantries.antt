@@ -5,6 +5,7 @@ use Rattle.model.specs.declared.line.Axis.{Axis}
 use Rattle.model.specs.declared.line.Axis.TheVariants.{X, Y, Z, U}
 use Rattle.model.specs.Axes.{Position}
 use Rattle.model.specs.declared.axes.Ends.{Ends}
+use Rattle.model.specs.declared.side.Sign.{Sign}
 use Rattle.model.specs.declared.side.Sign.TheVariants.{Plus, Minus}
 use Rattle.model.specs.declared.side.Factor.TheVariants.{Zero}
 use Rattle.model.specs.declared.side.Side.{Side}
@@ -35,13 +36,17 @@ other_axis Y = X
 other_axis Z = X
 other_axis U = X
 
+-- a side that bounds v alone
+abbrev pub bound : Sign → Axis → ℤ → Side
+bound a v c = record { a = a; v = v; b = Zero; w = other_axis v; c = c }
+
 -- v ≤ upper
 abbrev pub at_most : Axis → ℤ → Side
-at_most v upper = record { a = Plus; v = v; b = Zero; w = other_axis v; c = upper }
+at_most v upper = bound Plus v upper
 
 -- −v ≤ −lower
 abbrev pub at_least : Axis → ℤ → Side
-at_least v lower = record { a = Minus; v = v; b = Zero; w = other_axis v; c = neg_ℤ lower }
+at_least v lower = bound Minus v (neg_ℤ lower)
 
 abbrev pub gantry_sides : Gantry → List Side
 gantry_sides g =

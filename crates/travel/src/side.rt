@@ -14,7 +14,7 @@ pub fn holds(side: Side, p: Position) -> bool
     sum_at_most(side.a, v, side.b, w, side.c)
 }
 
-// A travel tells its sides by number, so the loop goes through numbers.
+// The loop goes through numbers: by number, a travel need not hold its sides in a slice.
 pub fn lowest_broken<T: Travel>(travel: &T, p: Position) -> Option<usize>
     ensures { result ≡ lowest (kept p) 0 (T.sides travel.now) }
 {

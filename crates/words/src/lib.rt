@@ -10,7 +10,7 @@ use lexer::digits;
 
 const MAX_DIGITS: usize = 8;
 
-// How many bytes stand before the first `stop`, or all.
+// How many bytes stand before the first `stop`, or all. One line: a function of the test would be as long.
 pub fn len_until(text: &[u8], stop: u8) -> usize
     ensures is { result ≡ until stop text.now }
     ensures within { result ≤ length text.now }

@@ -27,7 +27,7 @@ pub(crate) fn turned(pair: Option<Pair<Interval>>) -> Option<Pair<Interval>>
     })
 }
 
-// The two ends mirror each other: one function would take the step and its sign.
+// The two ends mirror each other: one function would take a step of 1 or -1, and no longer say which end it is of.
 fn up_from(lo: i64, v: i64) -> i64
     requires { Lies lo full }
     ensures { result ≡ up_from lo v }

@@ -8,7 +8,8 @@ use crate::table::Program;
 use reader::read;
 
 impl Program {
-    // Reads a line and adds it, or says why not and changes nothing.
+    // Reads a line and adds it, or says why not and changes nothing. Each call that may refuse says the last in these words: a name for it
+    // would be no shorter.
     pub fn line(&mut self, text: &[u8]) -> Result<(), LineRefusal>
         ensures says { line_said result ≡ line_answer (held self.old) text.now }
         ensures held { held self.new ≡ lines_after (held self.old) text.now }

@@ -43,8 +43,8 @@ impl Program {
         }
     }
 
-    // The number of the innermost open block, if an end of this kind and label fits it. Kind and label are parts of a line's role;
-    // a struct round the two would be taken apart again in each method.
+    // The number of the innermost open block, if an end of this kind and label fits it. Kind and label
+    // stay two, as a line's role and a block have them.
     fn fitting(&self, kind: BlockKind, label: u16) -> Option<usize>
         ensures test { is_some result ≡ fits (open_blocks (held self.now)) kind label }
         ensures last { IfSome result (λ i. Last (held_blocks self.now) (Some i) × ((slice_index_or (held_blocks self.now) i no_block).label ≡ label)) }

@@ -96,6 +96,7 @@ impl<'a> Reader<'a> {
         self.block_rest(n as u16, word)
     }
 
+    // The law of the grammar splits here as well, so no closure stands for what follows.
     fn line_rest(&mut self, start: LineStart) -> Result<Line, Refusal>
         ensures { Parses (line_rest start) self.old.lexer result self.new.lexer }
     {
@@ -106,6 +107,7 @@ impl<'a> Reader<'a> {
         }
     }
 
+    // Like more axis words, it may end at once: what each makes of an end and of a symbol is its own.
     pub fn line(&mut self) -> Result<Line, Refusal>
         ensures { Parses line self.old.lexer result self.new.lexer }
     {

@@ -21,6 +21,7 @@ fn axis_fits(v: Axis, ends: Ends) -> bool
     in_order(ends.lower.get(v), ends.home.get(v), ends.upper.get(v))
 }
 
+// Tried: `all` over the axes leaves the goal open.
 fn ends_fit(ends: Ends) -> bool
     ensures { result ≡ ends_fit ends }
 {

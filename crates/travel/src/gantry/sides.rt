@@ -1,14 +1,13 @@
 // The travel of a gantry: two sides for each axis.
-ghost use Rattle.std.specs.Prelude.{◌≡◌, pos, neg_ℤ, ◌≤ℤ◌};
+ghost use Rattle.std.specs.Prelude.{◌≡◌};
 ghost use Rattle.model.specs.Axes.{along};
-ghost use Rattle.model.specs.Limits.{limit};
-ghost use Rattle.travel.specs.Gantries.{other_axis, at_most, at_least, gantry_sides};
+ghost use Rattle.travel.specs.Gantries.{other_axis, bound, gantry_sides};
 ghost use Rattle.travel.specs.Gantries.{GantryRegion, lies_in, inside_ends};
 ghost use Rattle.travel.specs.GantryLaw.{gantry_lawful};
 
 use crate::gantry::Gantry;
 use crate::travel::Travel;
-use model::axes::Position;
+use model::axes::{Ends, Position};
 use model::line::Axis;
 use model::side::{Factor, Side, Sign};
 
@@ -22,46 +21,34 @@ fn other(v: Axis) -> Axis
     }
 }
 
-// Two functions: one for both would take a sign, and cast what the sign makes of the end.
-fn at_most(v: Axis, upper: i32) -> Side
-    ensures { result ≡ at_most v upper }
+// A side that bounds v alone.
+fn bound(a: Sign, v: Axis, c: i32) -> Side
+    ensures { result ≡ bound a v c }
 {
     Side {
-        a: Sign::Plus,
+        a,
         v,
         b: Factor::Zero,
         w: other(v),
-        c: upper,
+        c,
     }
 }
 
-fn at_least(v: Axis, lower: i32) -> Side
-    requires { neg_ℤ (pos limit) ≤ℤ lower }
-    ensures { result ≡ at_least v lower }
-{
-    Side {
-        a: Sign::Minus,
-        v,
-        b: Factor::Zero,
-        w: other(v),
-        c: -lower,
-    }
-}
-
-fn lies(v: Axis, lower: Position, p: Position, upper: Position) -> bool
-    ensures { result ≡ lies_in (along v lower) (along v p) (along v upper) }
+fn lies(v: Axis, ends: Ends, p: Position) -> bool
+    ensures { result ≡ lies_in (along v ends.lower) (along v p) (along v ends.upper) }
 {
     let n = p.get(v);
-    lower.get(v) <= n && n <= upper.get(v)
+    ends.lower.get(v) <= n && n <= ends.upper.get(v)
 }
 
-fn inside_ends(lower: Position, p: Position, upper: Position) -> bool
-    ensures { result ≡ inside_ends lower p upper }
+// Tried: `all` over the axes leaves the goal open.
+fn inside_ends(ends: Ends, p: Position) -> bool
+    ensures { result ≡ inside_ends ends.lower p ends.upper }
 {
-    let x = lies(Axis::X, lower, p, upper);
-    let y = lies(Axis::Y, lower, p, upper);
-    let z = lies(Axis::Z, lower, p, upper);
-    let u = lies(Axis::U, lower, p, upper);
+    let x = lies(Axis::X, ends, p);
+    let y = lies(Axis::Y, ends, p);
+    let z = lies(Axis::Z, ends, p);
+    let u = lies(Axis::U, ends, p);
     x && y && z && u
 }
 
@@ -80,14 +67,14 @@ impl Travel for Gantry {
 
     fn side(&self, n: usize) -> Option<Side> {
         match n {
-            0 => Some(at_most(Axis::X, self.ends.upper.x)),
-            1 => Some(at_least(Axis::X, self.ends.lower.x)),
-            2 => Some(at_most(Axis::Y, self.ends.upper.y)),
-            3 => Some(at_least(Axis::Y, self.ends.lower.y)),
-            4 => Some(at_most(Axis::Z, self.ends.upper.z)),
-            5 => Some(at_least(Axis::Z, self.ends.lower.z)),
-            6 => Some(at_most(Axis::U, self.ends.upper.u)),
-            7 => Some(at_least(Axis::U, self.ends.lower.u)),
+            0 => Some(bound(Sign::Plus, Axis::X, self.ends.upper.x)),
+            1 => Some(bound(Sign::Minus, Axis::X, -self.ends.lower.x)),
+            2 => Some(bound(Sign::Plus, Axis::Y, self.ends.upper.y)),
+            3 => Some(bound(Sign::Minus, Axis::Y, -self.ends.lower.y)),
+            4 => Some(bound(Sign::Plus, Axis::Z, self.ends.upper.z)),
+            5 => Some(bound(Sign::Minus, Axis::Z, -self.ends.lower.z)),
+            6 => Some(bound(Sign::Plus, Axis::U, self.ends.upper.u)),
+            7 => Some(bound(Sign::Minus, Axis::U, -self.ends.lower.u)),
             _ => None,
         }
     }
@@ -97,6 +84,6 @@ impl Travel for Gantry {
     }
 
     fn inside(&self, p: Position) -> bool {
-        inside_ends(self.ends.lower, p, self.ends.upper)
+        inside_ends(self.ends, p)
     }
 }
