@@ -6,6 +6,10 @@ use Rattle.certify.specs.declared.pass.Pass.{Pass}
 abbrev pub flowing : {S : Type 0} → List S → Pass S → Flow S
 flowing store p = record { store = store; current = p.current; changed = p.changed }
 
+-- the same pass with another current state
+abbrev pub onward : {S : Type 0} → Pass S → S → Pass S
+onward p s = record { current = s; changed = p.changed; failing = p.failing; hulls = p.hulls }
+
 -- before line n, from 1
 abbrev pub sweeping : {S : Type 0} → List S → Pass S → ℕ → Sweep S
 sweeping store p n = record { flow = flowing store p; line = n; failing = p.failing; hulls = p.hulls }

@@ -6,7 +6,7 @@ ghost use Rattle.model.specs.Values.{register};
 ghost use Rattle.program.specs.Held.{held};
 ghost use Rattle.sweep.specs.Blocks.{blocks};
 ghost use Rattle.sweep.specs.Sweeps.{first, failure, broken, all_sure, set_all, hulls_with, came, keeping, line_step};
-ghost use Rattle.certify.specs.Passes.{flowing, sweeping};
+ghost use Rattle.certify.specs.Passes.{flowing, sweeping, onward};
 
 use crate::axes::{all_sure, hulls_with, lowest_unshown, set_axes};
 use crate::pass::Pass;
@@ -29,10 +29,7 @@ fn first_failure(failing: Option<Failure>, line: usize, cause: Option<Cause>) ->
 
 // Only what meets the condition goes on.
 fn kept<D: Domain>(pass: Pass<D>, condition: Condition) -> Pass<D>
-    ensures current { result.current ≡ D.lattice.keep pass.current condition }
-    ensures changed { result.changed ≡ pass.changed }
-    ensures failing { result.failing ≡ pass.failing }
-    ensures hulls { result.hulls ≡ pass.hulls }
+    ensures { result ≡ onward pass (D.lattice.keep pass.current condition) }
 {
     Pass {
         current: pass.current.keep(condition),
@@ -118,20 +115,14 @@ fn enter_branch<D: Domain>(
     condition: Condition,
 ) -> Pass<D>
     ensures store { store.new ≡ slice_set store.old place (D.lattice.keep pass.current (opposite condition)) }
-    ensures current { result.current ≡ D.lattice.keep pass.current condition }
-    ensures changed { result.changed ≡ pass.changed }
-    ensures failing { result.failing ≡ pass.failing }
-    ensures hulls { result.hulls ≡ pass.hulls }
+    ensures pass { result ≡ onward pass (D.lattice.keep pass.current condition) }
 {
     put(store, place, pass.current.keep(opposite_of(condition)));
     kept(pass, condition)
 }
 
 fn leave_branch<D: Domain>(store: &[D], place: usize, pass: Pass<D>) -> Pass<D>
-    ensures current { result.current ≡ D.lattice.join (slice_index_or store.now place D.lattice.none) pass.current }
-    ensures changed { result.changed ≡ pass.changed }
-    ensures failing { result.failing ≡ pass.failing }
-    ensures hulls { result.hulls ≡ pass.hulls }
+    ensures { result ≡ onward pass (D.lattice.join (slice_index_or store.now place D.lattice.none) pass.current) }
 {
     let skipped = stored(store, place);
     Pass {
