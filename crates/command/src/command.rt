@@ -118,7 +118,8 @@ fn alone<'a>(command: Command<'a>, text: &[u8]) -> Option<Command<'a>>
     text.is_empty().then_some(command)
 }
 
-// The command of a first word, and of the text behind it.
+// The command of a first word, and of the text behind it. Each word reads its text in a way of its own: functions in a table would be
+// as many.
 fn command_by(word: Word, text: &[u8]) -> Option<Command>
     ensures { option_map meant result ≡ chosen word (arguments text.now) (drop 1 text.now) }
 {

@@ -21,6 +21,7 @@ use travel::travel::Travel;
 // The most steps of a dry run.
 pub const MAX_STEPS: u32 = 100_000;
 
+// Each call says of itself what it leaves, the travel first: the calls are read one by one.
 #[derive(Drop)]
 pub struct Session<T> {
     travel: T,
