@@ -35,7 +35,7 @@ fn with_value<D: Domain>(state: D, register: Register, value: Option<Value>) -> 
     value.map_or(state, |v| state.set(register, v.expression))
 }
 
-// The axes take those of the values that are there, in register order.
+// The axes take those of the values that are there, in register order: a sweep's loops keep their index.
 pub(crate) fn set_axes<D: Domain>(state: D, values: &[Option<Value>; AXES]) -> D
     ensures { result ≡ set_all D.lattice 0 values.now state }
 {

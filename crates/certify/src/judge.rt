@@ -19,7 +19,8 @@ use model::register::{AXES, PARAMETERS};
 use program::table::Program;
 use travel::travel::Travel;
 
-// Once through all lines. What is only read goes beside what changes: two lent values for three functions are plainer than a type.
+// Once through all lines, in order and by their numbers, so it is a loop with its index. What is only read goes beside what changes:
+// two lent values for three functions are plainer than a type.
 fn sweep_once<D: Domain, T: Travel>(
     program: &Program,
     travel: &T,

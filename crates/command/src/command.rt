@@ -30,6 +30,7 @@ pub enum Command<'a> {
     Gantry(Ends),
     Beam(Ends, i32),
     Line(&'a [u8]),
+    // the parameter by its number: the session refuses numbers of none
     Allow {
         parameter: i32,
         range: Range,

@@ -18,7 +18,7 @@ pub enum Word {
 pub(crate) fn word_of(text: &[u8]) -> Option<Word>
     ensures { result ≡ word_of text.now }
 {
-    // Not a `match`: its arm for all other texts keeps no fact of what they are not.
+    // Tried, and not a `match`: its arm for all other texts keeps no fact of what they are not.
     if text == b"benchgantry".as_slice() {
         Some(Word::BenchGantry)
     } else if text == b"benchbeam".as_slice() {

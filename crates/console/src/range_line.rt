@@ -5,7 +5,7 @@ ghost use Rattle.console.specs.RangeLines.{pair_of, range_of, RangeIs};
 use model::range::Range;
 use words::{len_until, number};
 
-// The range of values that a parameter may have.
+// The range of values that a parameter may have; the parameter by its number, since numbers of none are refused later.
 #[derive(Clone, Copy)]
 pub struct RangeLine {
     pub parameter: u8,

@@ -82,6 +82,7 @@ const BENCH_BEAM: Ends = Ends {
 
 const BENCH_GAP: i32 = 90_000;
 
+// A table of each kind, in one line each: one function for both would take the variant and the gap.
 fn on_gantry(ends: Ends) -> Result<Table, TravelRefusal>
     ensures { OnGantry ends result }
 {
