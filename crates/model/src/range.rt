@@ -5,7 +5,7 @@ ghost use Rattle.model.specs.Environments.{fit, lies};
 use crate::expression::LIMIT;
 
 // From lo to hi, both included; empty where lo is above hi.
-#[derive(Clone, Copy)]
+#[derive(Clone, Copy, PartialEq, Eq)]
 pub struct Range {
     pub lo: i32,
     pub hi: i32,
