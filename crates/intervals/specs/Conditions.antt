@@ -4,22 +4,13 @@ use Rattle.std.specs.Int.{int_min, int_max}
 use Rattle.model.specs.Values.{same}
 use Rattle.model.specs.declared.expression.Rel.{Rel}
 use Rattle.model.specs.declared.expression.Rel.TheVariants.{Eq, Ne, Lt, Le, Gt, Ge}
+use Rattle.number_sets.specs.Pairs.{both, turned}
 use Rattle.number_sets.specs.declared.sets.Pair.{Pair}
 use Rattle.intervals.specs.Made.{made}
 use Rattle.intervals.specs.Spans.{meet}
 use Rattle.intervals.specs.declared.interval.Interval.{Interval}
 
--- both sides, if neither is empty
-abbrev pub both : Option Interval → Option Interval → Option (Pair Interval)
-both None y = None
-both (Some x) None = None
-both (Some x) (Some y) = Some (record { left = x; right = y })
-
--- the two sides the other way round
-abbrev pub turned : Pair Interval → Pair Interval
-turned p = record { left = p.right; right = p.left }
-
--- the same, of what is left
+-- the two sides of what is left, the other way round
 abbrev pub turned_all : Option (Pair Interval) → Option (Pair Interval)
 turned_all None = None
 turned_all (Some p) = Some (turned p)

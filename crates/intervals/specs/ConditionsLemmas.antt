@@ -11,7 +11,8 @@ use Rattle.number_sets.specs.declared.sets.Pair.{Pair}
 use Rattle.number_sets.specs.Sets.{HasSome, HasPair}
 use Rattle.intervals.specs.Intervals.{intervals}
 use Rattle.intervals.specs.Made.{made, In, yes_le}
-use Rattle.intervals.specs.Conditions.{both, turned_all, below, up_from, down_from, except, kept}
+use Rattle.number_sets.specs.Pairs.{both}
+use Rattle.intervals.specs.Conditions.{turned_all, below, up_from, down_from, except, kept}
 use Rattle.intervals.specs.declared.interval.Interval.{Interval}
 use Rattle.intervals.specs.Makes.{made_in}
 use Rattle.intervals.specs.SpansLemmas.{meet_in}

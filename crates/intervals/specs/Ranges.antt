@@ -10,7 +10,11 @@ use Rattle.intervals.specs.declared.interval.Interval.{Interval}
 abbrev pub narrow : Interval → Range → Option Interval
 narrow x z = made (int_max x.lo z.lo) (int_min x.hi z.hi)
 
--- an interval as a range; for none, the empty one
+-- an interval as a range
+abbrev pub as_range : Interval → Range
+as_range x = record { lo = x.lo; hi = x.hi }
+
+-- the same; for none, the empty one
 abbrev pub spread : Option Interval → Range
 spread None = empty
-spread (Some x) = record { lo = x.lo; hi = x.hi }
+spread (Some x) = as_range x

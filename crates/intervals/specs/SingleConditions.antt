@@ -11,7 +11,8 @@ use Rattle.model.specs.declared.expression.Rel.TheVariants.{Eq, Ne, Lt, Le, Gt, 
 use Rattle.number_sets.specs.declared.sets.Pair.{Pair}
 use Rattle.intervals.specs.Made.{made}
 use Rattle.intervals.specs.Singles.{single}
-use Rattle.intervals.specs.Conditions.{both, turned_all, below, up_from, down_from, except, kept}
+use Rattle.number_sets.specs.Pairs.{both}
+use Rattle.intervals.specs.Conditions.{turned_all, below, up_from, down_from, except, kept}
 use Rattle.intervals.specs.declared.interval.Interval.{Interval}
 use Rattle.intervals.specs.Makes.{made_some, made_crossed, le_yes}
 use Rattle.intervals.specs.ConditionsLemmas.{lt_gap, le_gap, eq_yes, eq_no}

@@ -1,2 +1,3 @@
 pub mod Sets
 pub mod Exact
+pub mod Pairs

@@ -1,6 +1,7 @@
 // What a set of numbers for one register answers.
 ghost use Rattle.std.specs.Prelude.{◌≡◌, ℕ};
 ghost use Rattle.number_sets.specs.Exact.{ExactSets};
+ghost use Rattle.number_sets.specs.Pairs.{both, turned};
 ghost use Rattle.number_sets.specs.Sets.{NumberSets, LawfulSets};
 
 use model::expression::{Op, Rel};
@@ -12,6 +13,28 @@ use model::side::{Factor, Sign};
 pub struct Pair<V> {
     pub left: V,
     pub right: V,
+}
+
+impl<V: Copy> Pair<V> {
+    // Both sides, if neither is missing.
+    pub fn both(left: Option<V>, right: Option<V>) -> Option<Pair<V>>
+        ensures { result ≡ both left right }
+    {
+        Some(Pair {
+            left: left?,
+            right: right?,
+        })
+    }
+
+    // The two sides the other way round.
+    pub fn turned(self) -> Pair<V>
+        ensures { result ≡ turned self }
+    {
+        Pair {
+            left: self.right,
+            right: self.left,
+        }
+    }
 }
 
 // A set that is not empty; where an operation leaves nothing, it answers none.

@@ -1,31 +1,11 @@
 // What conditions leave of their two sides.
 ghost use Rattle.std.specs.Prelude.{◌≡◌, pos, ◌≤ℤ◌};
 ghost use Rattle.model.specs.Environments.{Lies, full};
-ghost use Rattle.intervals.specs.Conditions.{both, turned_all, below, up_from, down_from, except};
+ghost use Rattle.intervals.specs.Conditions.{below, up_from, down_from, except};
 
 use crate::interval::Interval;
 use crate::interval::spans::made;
 use number_sets::sets::Pair;
-
-// Both sides, if neither is empty.
-pub(crate) fn both(left: Option<Interval>, right: Option<Interval>) -> Option<Pair<Interval>>
-    ensures { result ≡ both left right }
-{
-    Some(Pair {
-        left: left?,
-        right: right?,
-    })
-}
-
-// The two sides the other way round.
-pub(crate) fn turned(pair: Option<Pair<Interval>>) -> Option<Pair<Interval>>
-    ensures { result ≡ turned_all pair }
-{
-    pair.map(|p| Pair {
-        left: p.right,
-        right: p.left,
-    })
-}
 
 // The two ends mirror each other: one function would take a step of 1 or -1, and no longer say which end it is of.
 fn up_from(lo: i64, v: i64) -> i64
@@ -48,7 +28,7 @@ impl Interval {
         requires { (pos 0 ≤ℤ gap) × (gap ≤ℤ pos 1) }
         ensures { result ≡ below gap self other }
     {
-        both(
+        Pair::both(
             made(self.lo, self.hi.min(other.hi - gap)),
             made(other.lo.max(self.lo + gap), other.hi),
         )

@@ -1,15 +1,26 @@
 // An interval is a set of numbers.
-ghost use Rattle.std.specs.Prelude.{refl};
+ghost use Rattle.std.specs.Prelude.{◌≡◌, refl};
 ghost use Rattle.intervals.specs.Intervals.{intervals};
+ghost use Rattle.intervals.specs.Ranges.{as_range};
 ghost use Rattle.intervals.specs.Laws.{intervals_lawful, intervals_exact};
 
 use crate::interval::Interval;
-use crate::interval::conditions::{both, turned};
 use crate::interval::spans::{made, widened_down, widened_up};
 use model::expression::{LIMIT, Op, Rel};
 use model::range::{EMPTY, Range};
 use model::side::{Factor, Sign};
 use number_sets::sets::{NumberSet, Pair};
+
+impl From<Interval> for Range {
+    ghost from_gives = { λ x range. range ≡ as_range x };
+
+    fn from(x: Interval) -> Range {
+        Range {
+            lo: x.lo as i32,
+            hi: x.hi as i32,
+        }
+    }
+}
 
 impl NumberSet for Interval {
     // each end can move once
@@ -47,12 +58,12 @@ impl NumberSet for Interval {
 
     fn kept(self, rel: Rel, other: Self) -> Option<Pair<Self>> {
         match rel {
-            Rel::Eq => both(self.meet(other), self.meet(other)),
-            Rel::Ne => both(self.except(other), other.except(self)),
+            Rel::Eq => Pair::both(self.meet(other), self.meet(other)),
+            Rel::Ne => Pair::both(self.except(other), other.except(self)),
             Rel::Lt => self.below(other, 1),
             Rel::Le => self.below(other, 0),
-            Rel::Gt => turned(other.below(self, 1)),
-            Rel::Ge => turned(other.below(self, 0)),
+            Rel::Gt => other.below(self, 1).map(Pair::turned),
+            Rel::Ge => other.below(self, 0).map(Pair::turned),
         }
     }
 
@@ -87,12 +98,6 @@ impl NumberSet for Interval {
     }
 
     fn range(self, range: Range) -> Range {
-        self.narrow(range).map_or(
-            EMPTY,
-            |x| Range {
-                lo: x.lo as i32,
-                hi: x.hi as i32,
-            },
-        )
+        self.narrow(range).map_or(EMPTY, Range::from)
     }
 }
