@@ -3,6 +3,7 @@ use Rattle.std.specs.Prelude.{Bool, cond, not, ◌&&◌, Some, None, Option}
 use Rattle.model.specs.declared.expression.Rel.{Rel}
 use Rattle.model.specs.declared.expression.Rel.TheVariants.{Eq, Ne, Lt, Le, Gt, Ge}
 use Rattle.model.specs.Values.{compare}
+use Rattle.number_sets.specs.Pairs.{both}
 use Rattle.number_sets.specs.declared.sets.Pair.{Pair}
 use Rattle.congruences.specs.Commons.{common}
 use Rattle.congruences.specs.Singles.{alone}
@@ -18,8 +19,7 @@ unless r x y = cond (fails r x y) None (Some (record { left = x; right = y }))
 
 -- the same on both sides
 abbrev pub doubled : Option Congruence → Option (Pair Congruence)
-doubled None = None
-doubled (Some c) = Some (record { left = c; right = c })
+doubled o = both o o
 
 -- EQ leaves the common members on both sides
 abbrev pub kept : Rel → Congruence → Congruence → Option (Pair Congruence)

@@ -37,11 +37,12 @@ fn shifted(x: Congruence, t: u64) -> i64
     x.residue + (t * x.modulus) as i64
 }
 
-fn met(x: Congruence, y: Congruence, at: Option<u64>) -> Option<Congruence>
-    requires { (0 < y.modulus) × (Below y.modulus at) }
-    ensures { result ≡ met x y at }
+// The members that both have, if they meet.
+fn met(x: Congruence, y: Congruence) -> Option<Congruence>
+    requires { 0 < y.modulus }
+    ensures { result ≡ met x y (least y.modulus (hits x y)) }
 {
-    let t = at?;
+    let t = meeting(x, y)?;
     settled(lcm(x.modulus, y.modulus), shifted(x, t))
 }
 
@@ -62,7 +63,7 @@ impl Congruence {
         } else if other.modulus == 0 {
             other.lone(self)
         } else {
-            met(self, other, meeting(self, other))
+            met(self, other)
         }
     }
 }

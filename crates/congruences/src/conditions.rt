@@ -1,16 +1,10 @@
 // What a condition leaves of its two sides.
 ghost use Rattle.std.specs.Prelude.{◌≡◌};
-ghost use Rattle.congruences.specs.Conditions.{fails, doubled, unless, kept};
+ghost use Rattle.congruences.specs.Conditions.{fails, unless, kept};
 
 use crate::congruence::Congruence;
 use model::expression::Rel;
 use number_sets::sets::Pair;
-
-fn doubled(side: Option<Congruence>) -> Option<Pair<Congruence>>
-    ensures { result ≡ doubled side }
-{
-    side.map(|x| Pair { left: x, right: x })
-}
 
 impl Congruence {
     fn fails(self, rel: Rel, other: Congruence) -> bool
@@ -34,7 +28,7 @@ impl Congruence {
         ensures { result ≡ kept rel self other }
     {
         match rel {
-            Rel::Eq => doubled(self.common(other)),
+            Rel::Eq => Pair::both(self.common(other), self.common(other)),
             Rel::Ne | Rel::Lt | Rel::Le | Rel::Gt | Rel::Ge => self.unless(rel, other),
         }
     }

@@ -1,7 +1,7 @@
 // The members in a range.
 ghost use Rattle.std.specs.Prelude.{◌≡◌, pos, neg_ℤ, ◌≤ℤ◌};
 ghost use Rattle.model.specs.Limits.{limit};
-ghost use Rattle.congruences.specs.Ranges.{first, last, ends, lower, upper, ranged, narrowed_to, narrowed, Found};
+ghost use Rattle.congruences.specs.Ranges.{first, last, ends, lower, upper, ranged, narrowed, Found};
 
 use crate::congruence::Congruence;
 use crate::settle::checked_single;
@@ -31,25 +31,29 @@ impl Congruence {
         }
     }
 
-    // The least and the greatest member from lo to hi, or None where there is none.
-    fn ends(self, lo: i32, hi: i32) -> Option<Range>
-        ensures { result ≡ ends self lo hi }
+    // The least and the greatest member in a range, or None where there is none.
+    fn ends(self, range: Range) -> Option<Range>
+        ensures { result ≡ ends self range.lo range.hi }
     {
-        let first = self.first(lo);
-        if lo as i64 <= first && first <= hi as i64 {
+        let first = self.first(range.lo);
+        if range.contains(first) {
             Some(Range {
                 lo: first as i32,
-                hi: self.last(hi) as i32,
+                hi: self.last(range.hi) as i32,
             })
         } else {
             None
         }
     }
 
+    // The same in what of the range lies within the limit.
     fn ends_in(self, range: Range) -> Option<Range>
         ensures { result ≡ ends self (lower range) (upper range) }
     {
-        self.ends(range.lo.max(-LIMIT), range.hi.min(LIMIT))
+        self.ends(Range {
+            lo: range.lo.max(-LIMIT),
+            hi: range.hi.min(LIMIT),
+        })
     }
 
     // From the least to the greatest member in a range within the limit, or 1..0 where there is none.
@@ -60,21 +64,15 @@ impl Congruence {
         self.ends_in(range).unwrap_or(EMPTY)
     }
 
-    fn narrowed_to(self, found: Option<Range>) -> Option<Congruence>
-        ensures { result ≡ narrowed_to self found }
+    // None where no member lies in the range, the single one where there is one.
+    pub fn narrowed(self, range: Range) -> Option<Congruence>
+        ensures { result ≡ narrowed self range }
     {
-        let ends = found?;
+        let ends = self.ends_in(range)?;
         if ends.lo == ends.hi {
             checked_single(ends.lo as i64)
         } else {
             Some(self)
         }
-    }
-
-    // None where no member lies in the range, the single one where there is one.
-    pub fn narrowed(self, range: Range) -> Option<Congruence>
-        ensures { result ≡ narrowed self range }
-    {
-        self.narrowed_to(self.ends_in(range))
     }
 }

@@ -43,6 +43,7 @@ pub(crate) fn value<V: NumberSet>(sets: &[V; REGISTERS], expression: Expression)
     }
 }
 
+// The same cases as for the value, with another answer in each: one function for both would take two closures.
 pub(crate) fn sure_value<V: NumberSet>(sets: &[V; REGISTERS], expression: Expression) -> bool
     ensures { result ≡ sure_value V.NumberSet.sets sets.now expression }
 {
