@@ -62,8 +62,9 @@ impl NumberSet for Congruence {
         self.hull_with(other)
     }
 
+    // Moduli can only fall to divisors, so the hull itself ends.
     fn widen(self, other: Self) -> Self {
-        self.hull_with(other)
+        self.hull(other)
     }
 
     fn inside(self, other: Self) -> bool {
