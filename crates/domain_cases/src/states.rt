@@ -26,7 +26,7 @@ fn only(n: i32) -> Range {
 }
 
 fn check_range(rt: &impl Abort, found: Range, lo: i32, hi: i32) {
-    assert!(rt; found.lo == lo && found.hi == hi);
+    assert!(rt; found == Range { lo, hi });
 }
 
 // One above what all sets of a state can be widened together; a product's is the sum of its sides'.
