@@ -1,5 +1,5 @@
 -- The loop over the lines makes the sweep, and the loop over sweeps comes to the one that judges.
-use Rattle.std.proofs.Common.{◌≡◌, ℕ, suc, ◌<◌, ◌≤◌, true, false, List, length, take, fold, sym, ap, ◌∙◌, subst, arith}
+use Rattle.std.proofs.Common.{◌≡◌, ℕ, ◌<◌, ◌≤◌, true, false, List, length, take, fold, sym, ap, ◌∙◌, subst}
 use Rattle.std.proofs.lemmas.List.{take_all}
 use Rattle.model.specs.declared.line.Line.{Line}
 use Rattle.model.specs.declared.side.Side.{Side}
@@ -15,15 +15,13 @@ use Rattle.certify.specs.declared.pass.Pass.{Pass}
 use Rattle.certify.specs.Passes.{sweeping}
 
 module _ {S : Type 0} (l : Lattice S) (bs : Blocks) (sides : List Side) where
-  pub all_lines : (begin : S) (store : List S) (lines held : List Line) (i : ℕ) (s : List S) (p : Pass S) → lines ≡ held → length lines ≤ i → i ≤ length lines →
-      sweeping s p (suc i) ≡ fold (line_step l bs sides) (fresh l begin store) (take i lines) →
-      sweeping s p (suc (length held)) ≡ sweep l bs sides held begin store
+  pub all_lines : (begin : S) (store : List S) (lines held : List Line) (i : ℕ) (s : List S) (p : Pass S) → lines ≡ held → length lines ≤ i →
+      sweeping s p ≡ fold (line_step l bs sides) (fresh l begin store) (take i lines) →
+      sweeping s p ≡ sweep l bs sides held begin store
   unfolding sweep
-  all_lines begin store lines held i s p same h k e =
-      let len : i ≡ length lines = omega arith in
+  all_lines begin store lines held i s p same h e =
       let whole = take_all i lines h in
-      let count : suc (length held) ≡ suc i = ap suc (ap length (sym same) ∙ sym len) in
-      ap (sweeping s p) count ∙ (e ∙ ap (fold (line_step l bs sides) (fresh l begin store)) (whole ∙ same))
+      e ∙ ap (fold (line_step l bs sides) (fresh l begin store)) (whole ∙ same)
 
   -- a pass that is a sweep, unchanged, judges; a changed one goes on from its store
   pub settled_by : (lines : List Line) (begin : S) (store : List S) (w : Sweep S) → w ≡ sweep l bs sides lines begin store → w.flow.changed ≡ false → Settles l bs sides lines begin store w

@@ -1,5 +1,5 @@
 -- A sweep as the code carries it from line to line: the lent store apart from the rest.
-use Rattle.std.specs.Prelude.{ℕ, List}
+use Rattle.std.specs.Prelude.{List}
 use Rattle.sweep.specs.Sweeps.{Flow, Sweep}
 use Rattle.certify.specs.declared.pass.Pass.{Pass}
 
@@ -8,8 +8,7 @@ flowing store p = record { store = store; current = p.current; changed = p.chang
 
 -- the same pass with another current state
 abbrev pub onward : {S : Type 0} → Pass S → S → Pass S
-onward p s = record { current = s; changed = p.changed; failing = p.failing; hulls = p.hulls }
+onward p s = record { line = p.line; current = s; changed = p.changed; failing = p.failing; hulls = p.hulls }
 
--- before line n, from 1
-abbrev pub sweeping : {S : Type 0} → List S → Pass S → ℕ → Sweep S
-sweeping store p n = record { flow = flowing store p; line = n; failing = p.failing; hulls = p.hulls }
+abbrev pub sweeping : {S : Type 0} → List S → Pass S → Sweep S
+sweeping store p = record { flow = flowing store p; line = p.line; failing = p.failing; hulls = p.hulls }

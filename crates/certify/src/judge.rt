@@ -1,5 +1,5 @@
 // Sweeps repeat until one is unchanged; that one judges.
-ghost use Rattle.std.specs.Prelude.{◌≡◌, suc, ◌≤◌, length};
+ghost use Rattle.std.specs.Prelude.{◌≡◌, ◌≤◌, length};
 ghost use Rattle.model.specs.Blocks.{labels};
 ghost use Rattle.model.specs.Programs.{Closed};
 ghost use Rattle.program.specs.Held.{held};
@@ -19,32 +19,32 @@ use model::register::{AXES, PARAMETERS};
 use program::table::Program;
 use travel::travel::Travel;
 
-// Once through all lines, in order and by their numbers, so it is a loop with its index. What is only read goes beside what changes:
-// two lent values for three functions are plainer than a type.
+// Once through all lines, in order. What is only read goes beside what changes: two lent values for three functions are plainer
+// than a type.
 fn sweep_once<D: Domain, T: Travel>(
     program: &Program,
     travel: &T,
     start: D,
     store: &mut [D],
 ) -> Pass<D>
-    ensures { sweeping store.new result (suc (length (held program.now))) ≡ sweep D.lattice (blocks (held program.now)) (T.sides travel.now) (held program.now) start store.old }
+    ensures { sweeping store.new result ≡ sweep D.lattice (blocks (held program.now)) (T.sides travel.now) (held program.now) start store.old }
 {
     let mut pass = Pass {
+        line: 1,
         current: start,
         changed: false,
         failing: None,
         hulls: [None; AXES],
     };
-    let lines = program.lines();
-    for (i, line) in lines.iter().enumerate() {
-        pass = step(program, travel, store, pass, i + 1, *line);
+    for line in program.lines() {
+        pass = step(program, travel, store, pass, *line);
     }
     pass
 }
 
 fn settle<D: Domain, T: Travel>(program: &Program, travel: &T, start: D, store: &mut [D]) -> Pass<D>
     requires { (Closed (held program.now)) × (length (labels (held program.now)) ≤ length store.old) }
-    ensures { Settles D.lattice (blocks (held program.now)) (T.sides travel.now) (held program.now) start store.old (sweeping store.new result (suc (length (held program.now)))) }
+    ensures { Settles D.lattice (blocks (held program.now)) (T.sides travel.now) (held program.now) start store.old (sweeping store.new result) }
 {
     loop {
         let pass = sweep_once(program, travel, start, store);

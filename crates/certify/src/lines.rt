@@ -1,5 +1,5 @@
 // What one line does to a sweep.
-ghost use Rattle.std.specs.Prelude.{◌≡◌, suc, if◌then◌else◌, Some, None, slice_index_or, slice_set};
+ghost use Rattle.std.specs.Prelude.{◌≡◌, ◌<◌, ◌^◌, suc, if◌then◌else◌, Some, None, slice_index_or, slice_set};
 ghost use Rattle.model.specs.Opposites.{opposite};
 ghost use Rattle.model.specs.Sides.{lowest};
 ghost use Rattle.model.specs.Values.{register};
@@ -21,10 +21,11 @@ use program::table::Program;
 use travel::travel::Travel;
 
 // The first failure stays.
-fn first_failure(failing: Option<Failure>, line: usize, cause: Option<Cause>) -> Option<Failure>
-    ensures { result ≡ first failing (failure line cause) }
+fn first_failure<D: Domain>(pass: &Pass<D>, cause: Option<Cause>) -> Option<Failure>
+    ensures { result ≡ first pass.now.failing (failure pass.now.line cause) }
 {
-    failing.or(cause.map(|cause| Failure { line, cause }))
+    let line = pass.line;
+    pass.failing.or(cause.map(|cause| Failure { line, cause }))
 }
 
 // Only what meets the condition goes on.
@@ -37,21 +38,17 @@ fn kept<D: Domain>(pass: Pass<D>, condition: Condition) -> Pass<D>
     }
 }
 
-fn set_parameter<D: Domain>(
-    pass: Pass<D>,
-    line: usize,
-    parameter: Parameter,
-    value: Value,
-) -> Pass<D>
+fn set_parameter<D: Domain>(pass: Pass<D>, parameter: Parameter, value: Value) -> Pass<D>
     ensures current { result.current ≡ D.lattice.set pass.current (register parameter) value.expression }
     ensures changed { result.changed ≡ pass.changed }
-    ensures failing { result.failing ≡ first pass.failing (failure line (if D.lattice.sure pass.current value.expression then None else Some Cause.Arithmetic)) }
+    ensures failing { result.failing ≡ first pass.failing (failure pass.line (if D.lattice.sure pass.current value.expression then None else Some Cause.Arithmetic)) }
+    ensures line { result.line ≡ pass.line }
     ensures hulls { result.hulls ≡ pass.hulls }
 {
     let cause = (!pass.current.sure(value.expression)).then_some(Cause::Arithmetic);
     Pass {
         current: pass.current.set(parameter.into(), value.expression),
-        failing: first_failure(pass.failing, line, cause),
+        failing: first_failure(&pass, cause),
         ..pass
     }
 }
@@ -73,22 +70,22 @@ fn cause_of_move<D: Domain, T: Travel>(
 
 fn move_axes<D: Domain, T: Travel>(
     pass: Pass<D>,
-    line: usize,
     travel: &T,
     values: &[Option<Value>; AXES],
 ) -> Pass<D>
     ensures current { result.current ≡ set_all D.lattice 0 values.now pass.current }
     ensures changed { result.changed ≡ pass.changed }
-    ensures failing { result.failing ≡ first pass.failing (failure line (if all_sure D.lattice pass.current values.now then broken (lowest (D.lattice.shows result.current) 0 (T.sides travel.now)) else Some Cause.Arithmetic)) }
+    ensures failing { result.failing ≡ first pass.failing (failure pass.line (if all_sure D.lattice pass.current values.now then broken (lowest (D.lattice.shows result.current) 0 (T.sides travel.now)) else Some Cause.Arithmetic)) }
+    ensures line { result.line ≡ pass.line }
     ensures hulls { result.hulls ≡ hulls_with D.lattice 0 result.current pass.hulls }
 {
     let current = set_axes(pass.current, values);
     let cause = cause_of_move(&pass.current, &current, travel, values);
     Pass {
         current,
-        changed: pass.changed,
-        failing: first_failure(pass.failing, line, cause),
+        failing: first_failure(&pass, cause),
         hulls: hulls_with(&current, pass.hulls),
+        ..pass
     }
 }
 
@@ -101,6 +98,7 @@ fn pass_loop<D: Domain>(
 ) -> Pass<D>
     ensures flow { flowing store.new result ≡ keeping D.lattice condition (came D.lattice place (flowing store.old pass)) }
     ensures failing { result.failing ≡ pass.failing }
+    ensures line { result.line ≡ pass.line }
     ensures hulls { result.hulls ≡ pass.hulls }
 {
     let met = come(store, place, pass);
@@ -131,21 +129,21 @@ fn leave_branch<D: Domain>(store: &[D], place: usize, pass: Pass<D>) -> Pass<D>
     }
 }
 
-// The line of this number, from 1.
+// The next line.
 pub(crate) fn step<D: Domain, T: Travel>(
     program: &Program,
     travel: &T,
     store: &mut [D],
     pass: Pass<D>,
-    number: usize,
     line: Line,
 ) -> Pass<D>
-    ensures { sweeping store.new result (suc number) ≡ line_step D.lattice (blocks (held program.now)) (T.sides travel.now) (sweeping store.old pass number) line }
+    requires { suc pass.line < 2 ^ 64 }
+    ensures { sweeping store.new result ≡ line_step D.lattice (blocks (held program.now)) (T.sides travel.now) (sweeping store.old pass) line }
 {
-    match line {
+    let after = match line {
         Line::Plain => pass,
-        Line::Setting { parameter, value } => set_parameter(pass, number, parameter, value),
-        Line::Move { x, y, z, u, .. } => move_axes(pass, number, travel, &[x, y, z, u]),
+        Line::Setting { parameter, value } => set_parameter(pass, parameter, value),
+        Line::Move { x, y, z, u, .. } => move_axes(pass, travel, &[x, y, z, u]),
         Line::While { label, condition } => pass_loop(
             store,
             place(program, label),
@@ -163,5 +161,9 @@ pub(crate) fn step<D: Domain, T: Travel>(
             condition,
         ),
         Line::EndIf { label } => leave_branch(store, place(program, label), pass),
+    };
+    Pass {
+        line: pass.line + 1,
+        ..after
     }
 }

@@ -5,6 +5,8 @@ use model::register::AXES;
 
 #[derive(Clone, Copy)]
 pub struct Pass<D> {
+    // the number of the next line, from 1
+    pub line: usize,
     // means every environment that a run can bring to the next line
     pub current: D,
     // whether a loop's state grew

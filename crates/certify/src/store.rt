@@ -39,7 +39,7 @@ pub(crate) fn stored<D: Domain>(store: &[D], place: usize) -> D
 pub(crate) fn put<D: Domain>(store: &mut [D], place: usize, state: D)
     ensures { store.new ≡ slice_set store.old place state }
 {
-    // No shorter by get_mut, and what a generic slice holds after a write through that stays open in the proof.
+    // Tried with get_mut(place) and iter_mut().nth(place): std does not say what the slice ends as after a write through them.
     if place < store.len() {
         store[place] = state;
     }
@@ -49,6 +49,7 @@ pub(crate) fn put<D: Domain>(store: &mut [D], place: usize, state: D)
 pub(crate) fn come<D: Domain>(store: &mut [D], place: usize, pass: Pass<D>) -> Pass<D>
     ensures flow { flowing store.new result ≡ came D.lattice place (flowing store.old pass) }
     ensures failing { result.failing ≡ pass.failing }
+    ensures line { result.line ≡ pass.line }
     ensures hulls { result.hulls ≡ pass.hulls }
 {
     let old = stored(store, place);

@@ -5,7 +5,8 @@ use Rattle.sweep.specs.Sweeps.{line_step, fresh}
 use Rattle.certify.specs.Passes.{sweeping}
 use Rattle.certify.proofs.judge.sweep_once.Given as goal
 
-abbrev pub invariant-loop-i : goal.invariant-loop-i
-invariant-loop-i g l =
-    sweeping l.store l.pass (suc l.i)
-    ≡ fold (line_step g.D.Domain.lattice (blocks (held l.program)) (g.T.Travel.sides l.travel)) (fresh g.D.Domain.lattice l.initial.pass.current l.initial.store) (take l.i l.lines)
+abbrev pub invariant-loop-line : goal.invariant-loop-line
+invariant-loop-line g l =
+    (l.pass.line ≡ suc l.line-index)
+    × (sweeping l.store l.pass
+    ≡ fold (line_step g.D.Domain.lattice (blocks (held l.program)) (g.T.Travel.sides l.travel)) (fresh g.D.Domain.lattice l.initial.pass.current l.initial.store) (take l.line-index l.line-items))
