@@ -1,7 +1,7 @@
 // Values and conditions at the registers of a run.
 ghost use Rattle.std.specs.Prelude.{◌≡◌};
 ghost use Rattle.model.specs.Values.{term, evaluate, holds};
-ghost use Rattle.runner.specs.Steps.{fitting, value_of};
+ghost use Rattle.runner.specs.Steps.{value_of};
 
 use model::expression::{Condition, Expression, Term, Value};
 use model::range::fits;
@@ -29,18 +29,12 @@ fn evaluate(registers: &[i32; REGISTERS], x: Expression) -> i64
     }
 }
 
-// The number, unless it lies beyond the greatest length.
-fn fitting(n: i64) -> Option<i32>
-    ensures { result ≡ fitting n }
-{
-    if fits(n) { Some(n as i32) } else { None }
-}
-
 // What a value gives its register, or none where it faults.
 pub fn value(registers: &[i32; REGISTERS], v: Value) -> Option<i32>
     ensures { result ≡ value_of registers.now v }
 {
-    fitting(evaluate(registers, v.expression))
+    let n = evaluate(registers, v.expression);
+    fits(n).then(|| n as i32)
 }
 
 pub fn meets(registers: &[i32; REGISTERS], c: Condition) -> bool
