@@ -12,7 +12,7 @@ ghost use Rattle.runner.specs.Plain.{run_at, PlainStep};
 ghost use Rattle.runner.specs.Steps.{worked, set_if, line_at, line_under, behind, first, went, gone, commanded, step_of};
 
 use crate::value::{meets, value};
-use model::axes::Position;
+use model::axes::{Axes, Position};
 use model::expression::{Condition, Value};
 use model::line::{Axis, Line};
 use model::register::{PARAMETERS, REGISTERS, Register};
@@ -25,6 +25,7 @@ pub struct Run {
     registers: [i32; REGISTERS],
 }
 
+// A fault is an answer like the others: a plain run's step has it as an outcome, and clauses and dry runs match on all four.
 #[derive(Clone, Copy)]
 pub enum Stepped {
     WentOn,
@@ -71,12 +72,11 @@ impl Run {
     pub fn begin(home: Position, values: [i32; PARAMETERS]) -> Run
         ensures { result ≡ run_at 0 (start home values) }
     {
+        let Position { x, y, z, u } = home;
+        let [p1, p2, p3, p4, p5, p6] = values;
         Run {
             at: Some(0),
-            registers: [
-                home.x, home.y, home.z, home.u, values[0], values[1], values[2], values[3],
-                values[4], values[5],
-            ],
+            registers: [x, y, z, u, p1, p2, p3, p4, p5, p6],
         }
     }
 
@@ -117,20 +117,13 @@ impl Run {
         }
     }
 
-    fn travel(
-        &mut self,
-        n: usize,
-        x: Option<i32>,
-        y: Option<i32>,
-        z: Option<i32>,
-        u: Option<i32>,
-    ) -> Stepped
-        ensures { gone self.new result ≡ commanded n (set_if (set_if (set_if (set_if self.old.registers 0 x) 1 y) 2 z) 3 u) }
+    fn travel(&mut self, n: usize, to: Axes<Option<i32>>) -> Stepped
+        ensures { gone self.new result ≡ commanded n (set_if (set_if (set_if (set_if self.old.registers 0 to.x) 1 to.y) 2 to.z) 3 to.u) }
     {
-        self.put(Axis::X, x);
-        self.put(Axis::Y, y);
-        self.put(Axis::Z, z);
-        self.put(Axis::U, u);
+        self.put(Axis::X, to.x);
+        self.put(Axis::Y, to.y);
+        self.put(Axis::Z, to.z);
+        self.put(Axis::U, to.u);
         self.at = Some(n);
         Stepped::Commanded(self.position())
     }
@@ -172,11 +165,13 @@ impl Run {
                 self.go(n + 1)
             }
             (Some(n), Some(Line::Move { x, y, z, u, .. })) => {
-                let x = worked(&self.registers, x)?;
-                let y = worked(&self.registers, y)?;
-                let z = worked(&self.registers, z)?;
-                let u = worked(&self.registers, u)?;
-                self.travel(n + 1, x, y, z, u)
+                let to = Axes {
+                    x: worked(&self.registers, x)?,
+                    y: worked(&self.registers, y)?,
+                    z: worked(&self.registers, z)?,
+                    u: worked(&self.registers, u)?,
+                };
+                self.travel(n + 1, to)
             }
             // Tried: one arm for both kinds leaves the proof without which line it is.
             (Some(n), Some(Line::While { label, condition })) => {
