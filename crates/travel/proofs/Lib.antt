@@ -1,2 +1,3 @@
 pub mod Orders
 pub mod Broken
+pub mod Got

@@ -1,7 +1,7 @@
 // The travel of a gantry: two sides for each axis.
 ghost use Rattle.std.specs.Prelude.{◌≡◌};
 ghost use Rattle.model.specs.Axes.{along};
-ghost use Rattle.travel.specs.Gantries.{other_axis, bound, gantry_sides};
+ghost use Rattle.travel.specs.Gantries.{other_axis, bound, at_most, at_least, gantry_sides};
 ghost use Rattle.travel.specs.Gantries.{GantryRegion, lies_in, inside_ends};
 ghost use Rattle.travel.specs.GantryLaw.{gantry_lawful};
 
@@ -52,6 +52,35 @@ fn inside_ends(ends: Ends, p: Position) -> bool
     x && y && z && u
 }
 
+impl Gantry {
+    fn at_most(&self, v: Axis) -> Side
+        ensures { result ≡ at_most v (along v self.now.ends.upper) }
+    {
+        bound(Sign::Plus, v, self.ends.upper.get(v))
+    }
+
+    fn at_least(&self, v: Axis) -> Side
+        ensures { result ≡ at_least v (along v self.now.ends.lower) }
+    {
+        bound(Sign::Minus, v, -self.ends.lower.get(v))
+    }
+
+    fn sides(&self) -> [Side; 8]
+        ensures { result ≡ gantry_sides self.now }
+    {
+        [
+            self.at_most(Axis::X),
+            self.at_least(Axis::X),
+            self.at_most(Axis::Y),
+            self.at_least(Axis::Y),
+            self.at_most(Axis::Z),
+            self.at_least(Axis::Z),
+            self.at_most(Axis::U),
+            self.at_least(Axis::U),
+        ]
+    }
+}
+
 impl Travel for Gantry {
     ghost region = { GantryRegion };
 
@@ -66,17 +95,7 @@ impl Travel for Gantry {
     }
 
     fn side(&self, n: usize) -> Option<Side> {
-        match n {
-            0 => Some(bound(Sign::Plus, Axis::X, self.ends.upper.x)),
-            1 => Some(bound(Sign::Minus, Axis::X, -self.ends.lower.x)),
-            2 => Some(bound(Sign::Plus, Axis::Y, self.ends.upper.y)),
-            3 => Some(bound(Sign::Minus, Axis::Y, -self.ends.lower.y)),
-            4 => Some(bound(Sign::Plus, Axis::Z, self.ends.upper.z)),
-            5 => Some(bound(Sign::Minus, Axis::Z, -self.ends.lower.z)),
-            6 => Some(bound(Sign::Plus, Axis::U, self.ends.upper.u)),
-            7 => Some(bound(Sign::Minus, Axis::U, -self.ends.lower.u)),
-            _ => None,
-        }
+        self.sides().get(n).copied()
     }
 
     fn home(&self) -> Position {
