@@ -12,11 +12,11 @@ use Rattle.session.specs.Answers.{allow_answer, dry_answer}
 use Rattle.session.specs.Memory.{Memory, memory, blank, after_line, after_allow}
 use Rattle.travel.specs.declared.beam.Beam.{Beam}
 use Rattle.travel.specs.declared.gantry.Gantry.{Gantry}
-use Rattle.either_travel.specs.declared.either.Either.{Either}
-use Rattle.either_travel.specs.declared.either.Either.TheVariants.{First, Second}
+use Rattle.either.specs.declared.Either.{Either}
+use Rattle.either.specs.declared.Either.TheVariants.{Left, Right}
 use Rattle.travel.specs.declared.refusal.TravelRefusal.{TravelRefusal}
 use Rattle.travel.specs.Beams.{beam_sides, BeamMade}
-use Rattle.either_travel.specs.Eithers.{either}
+use Rattle.travel.specs.Eithers.{either}
 use Rattle.travel.specs.Gantries.{gantry_sides, GantryMade}
 use Rattle.travel.specs.Refusals.{travel_number}
 use Rattle.session.specs.declared.session.Session.{Session}
@@ -75,13 +75,13 @@ Table = Either Gantry Beam
 
 -- a gantry with these ends, or why there is none
 abbrev pub OnGantry : Ends → Result Table TravelRefusal → Type 0
-OnGantry ends (Ok (First g)) = GantryMade ends (Ok g)
-OnGantry ends (Ok (Second b)) = ⊥
+OnGantry ends (Ok (Left g)) = GantryMade ends (Ok g)
+OnGantry ends (Ok (Right b)) = ⊥
 OnGantry ends (Err e) = GantryMade ends (Err e)
 
 abbrev pub OnBeam : Ends → ℤ → Result Table TravelRefusal → Type 0
-OnBeam ends gap (Ok (First g)) = ⊥
-OnBeam ends gap (Ok (Second b)) = BeamMade ends gap (Ok b)
+OnBeam ends gap (Ok (Left g)) = ⊥
+OnBeam ends gap (Ok (Right b)) = BeamMade ends gap (Ok b)
 OnBeam ends gap (Err e) = BeamMade ends gap (Err e)
 
 abbrev pub SomeTable : (Result Table TravelRefusal → Type 0) → Option (Result Table TravelRefusal) → Type 0

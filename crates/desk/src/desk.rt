@@ -7,7 +7,7 @@ ghost use Rattle.desk.specs.Serving.{Calls, OnGantry, OnBeam, Names, Changes, Se
 
 use crate::answer::{Answer, Refusal};
 use command::command::{Command, read_command};
-use either_travel::either::Either;
+use either::Either;
 use model::axes::{Ends, Position};
 use session::session::Session;
 use travel::beam::Beam;
@@ -86,13 +86,13 @@ const BENCH_GAP: i32 = 90_000;
 fn on_gantry(ends: Ends) -> Result<Table, TravelRefusal>
     ensures { OnGantry ends result }
 {
-    Gantry::new(ends).map(Either::First)
+    Gantry::new(ends).map(Either::Left)
 }
 
 fn on_beam(ends: Ends, gap: i32) -> Result<Table, TravelRefusal>
     ensures { OnBeam ends gap result }
 {
-    Beam::new(ends, gap).map(Either::Second)
+    Beam::new(ends, gap).map(Either::Right)
 }
 
 // The table a script begins on.

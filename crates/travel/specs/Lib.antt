@@ -4,3 +4,4 @@ pub mod Gantries
 pub mod Beams
 pub mod BeamLaw
 pub mod GantryLaw
+pub mod Eithers

@@ -3,6 +3,7 @@
 #![tactic(auto)]
 
 pub mod beam;
+mod either_travel;
 pub mod gantry;
 pub mod refusal;
 pub mod side;

@@ -1,5 +1,0 @@
-// One of two travels, as a travel.
-
-#![tactic(auto)]
-
-pub mod either;
