@@ -12,7 +12,7 @@ use Rattle.grammar.specs.declared.refusal.Cause.{Cause}
 use Rattle.grammar.specs.Combinators.{Parsed, got, bad, Parser, after, bind, pure, tested, expect, ends, or_more}
 use Rattle.grammar.specs.Symbols.{symbol_of, symbols}
 use Rattle.grammar.specs.Answer.{front}
-use Rattle.reader.specs.Parses.{ahead, Suffix, Placed, Agrees, Parses, Next, Takes, Expects}
+use Rattle.reader.specs.Parses.{ahead, Suffix, Placed, Agrees, Parses, Next, Takes, Taken, Expects}
 use Rattle.grammar.specs.Tests.{tried, outcome}
 
 trans : (xs ys zs : List Lexeme) → Suffix xs ys → Suffix ys zs → Suffix xs zs
@@ -88,9 +88,12 @@ parses_leaf f a i b r t e = record {
   says = subst (λ x. Agrees (expect f (symbols (ahead a))) (length a.text.now) (ahead a) x (ahead b)) (sym e) (leaf f (ahead a) (ahead b) _ i.place i.symbol t.next);
 }
 
--- a symbol that a function has tested, by what the function says
+-- an item that a function has tested, by what the function says
+pub taken_by : {A : Type 0} (f : Symbol → Result A Cause) (i : Item) (r : Result A Refusal) → Taken (λ s t. Option Symbol × (t ≡ tried f s)) i r → r ≡ outcome (tried f i.symbol) i.place
+taken_by f i r x = x.is ∙ ap (λ t. outcome t i.place) x.gives.1
+
 pub parses_expected : {A : Type 0} (f : Symbol → Result A Cause) (a : Lexer) (r : Result A Refusal) (b : Lexer) → Expects (λ s t. Option Symbol × (t ≡ tried f s)) a r b → Parses (expect f) a r b
-parses_expected f a r b x = parses_leaf f a x.item b r x.takes (x.is ∙ ap (λ t. outcome t x.item.place) x.gives.1)
+parses_expected f a r b x = parses_leaf f a x.item b r x.takes (taken_by f x.item r x.taken)
 
 -- ---- the end of a line, or more
 pub parses_last : (l : Line) (a : Lexer) (i : Item) (b : Lexer) → Takes a i b → i.symbol ≡ None → Parses (ends l) a (Ok l) b

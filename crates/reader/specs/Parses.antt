@@ -45,10 +45,14 @@ pub record Takes (a : Lexer) (i : Item) (b : Lexer) : Type 0 where
   pub same : b.text ≡ a.text
   pub next : Next (ahead a) (length a.text.now) i.place i.symbol (ahead b)
 
--- the lexer goes on by one symbol, and what the test P says of it is answered at its place
+-- what the test P says of an item is answered at its place
+pub record Taken {A : Type 0} (P : Option Symbol → Result A Cause → Type 0) (i : Item) (r : Result A Refusal) : Type 0 where
+  pub tested : Result A Cause
+  pub gives : P i.symbol tested
+  pub is : r ≡ outcome tested i.place
+
+-- the lexer goes on by one symbol, which the test P takes
 pub record Expects {A : Type 0} (P : Option Symbol → Result A Cause → Type 0) (a : Lexer) (r : Result A Refusal) (b : Lexer) : Type 0 where
   pub item : Item
-  pub tested : Result A Cause
   pub takes : Takes a item b
-  pub gives : P item.symbol tested
-  pub is : r ≡ outcome tested item.place
+  pub taken : Taken P item r

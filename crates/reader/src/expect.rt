@@ -1,19 +1,27 @@
 // What a symbol is taken for where it stands.
 ghost use Rattle.std.specs.Prelude.{◌≡◌};
-ghost use Rattle.grammar.specs.Tests.{tried, outcome, digits, only, axis, relation};
+ghost use Rattle.reader.specs.Parses.{Taken};
+ghost use Rattle.grammar.specs.Tests.{tried, digits, only, axis, relation};
 ghost use Rattle.grammar.specs.Parser.{term_first, value_first, operator, block_word, line_first};
 
 use crate::term::positive;
 use grammar::refusal::{Cause, Refusal};
-use grammar::symbol::{BlockWord, Keyword, LineStart, Symbol, TermStart, ValueStart};
+use grammar::symbol::{BlockWord, Item, Keyword, LineStart, Symbol, TermStart, ValueStart};
 use model::expression::{LIMIT, Op, Rel};
 use model::line::Axis;
 
-// What a test at a place comes to.
-pub fn outcome<A>(tested: Result<A, Cause>, place: usize) -> Result<A, Refusal>
-    ensures { result ≡ outcome tested place }
+// The item as the test takes it, or refused at its place.
+pub fn taken<A, F: FnOnce(Option<Symbol>) -> Result<A, Cause>>(
+    item: Item,
+    test: F,
+) -> Result<A, Refusal>
+    requires { F.IsAlwaysCallable test }
+    ensures { Taken (F.post test) item result }
 {
-    tested.map_err(|cause| Refusal { cause, place })
+    test(item.symbol).map_err(|cause| Refusal {
+        cause,
+        place: item.place,
+    })
 }
 
 pub fn digits(t: Option<Symbol>, lo: u32, hi: u32) -> Result<u32, Cause>

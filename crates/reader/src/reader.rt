@@ -52,7 +52,7 @@ impl<'a> Reader<'a> {
         ensures { Expects (F.post test) self.old.lexer result self.new.lexer }
     {
         let item = self.next();
-        expect::outcome(test(item.symbol), item.place)
+        expect::taken(item, test)
     }
 
     fn digits(&mut self, lo: u32, hi: u32) -> Result<u32, Refusal>

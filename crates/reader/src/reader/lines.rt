@@ -47,7 +47,7 @@ impl<'a> Reader<'a> {
         if item.symbol.is_none() {
             return Ok(axes::moved(motion, values));
         }
-        let a = expect::outcome(expect::axis(item.symbol), item.place)?;
+        let a = expect::taken(item, expect::axis)?;
         if values.get(a).is_some() {
             return Err(Refusal {
                 cause: Cause::Twice,
@@ -115,7 +115,7 @@ impl<'a> Reader<'a> {
         if item.symbol.is_none() {
             return Ok(Line::Plain);
         }
-        let start = expect::outcome(expect::line_first(item.symbol), item.place)?;
+        let start = expect::taken(item, expect::line_first)?;
         self.line_rest(start)
     }
 }

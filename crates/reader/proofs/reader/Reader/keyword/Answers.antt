@@ -6,5 +6,5 @@ use Rattle.reader.proofs.reader.Reader.keyword.Goals as goal
 pub returns : goal.returns
 returns c =
     let x = c.expect.ensures in
-    let e : x.tested ≡ tried (only c.args.k) x.item.symbol = search rules in
-    parses_leaf (only c.args.k) _ x.item _ _ x.takes (x.is ∙ ap (λ t. outcome t x.item.place) e)
+    let e : x.taken.tested ≡ tried (only c.args.k) x.item.symbol = search rules in
+    parses_leaf (only c.args.k) _ x.item _ _ x.takes (x.taken.is ∙ ap (λ t. outcome t x.item.place) e)
