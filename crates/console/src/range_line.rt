@@ -16,11 +16,11 @@ fn two_numbers(parameter: u8, text: &[u8]) -> Option<RangeLine>
     ensures { result ≡ pair_of parameter text.now }
 {
     let n = len_until(text, b' ');
-    if n == text.len() {
+    let [_, rest @ ..] = &text[n..] else {
         return None;
-    }
-    let lo = number(&text[0..n])?;
-    let hi = number(&text[n + 1..])?;
+    };
+    let lo = number(&text[..n])?;
+    let hi = number(rest)?;
     Some(RangeLine {
         parameter,
         range: Range { lo, hi },
