@@ -10,7 +10,7 @@
 //     dry N*7              six values and a count of steps, which is not negative
 //
 // Anything else is no command. Command words are written in small letters exactly.
-ghost use Rattle.std.specs.Prelude.{◌≡◌, ◌+◌, ◌≤◌, length, drop, option_map};
+ghost use Rattle.std.specs.Prelude.{◌≡◌, drop, option_map};
 ghost use Rattle.model.specs.Environments.{position};
 ghost use Rattle.command.specs.Words.{arguments};
 ghost use Rattle.command.specs.Numbers.{numbers_of};
@@ -43,43 +43,39 @@ pub enum Command<'a> {
     },
 }
 
-// The position whose coordinates begin at this index.
-fn position_at(numbers: &[i32], first: usize) -> Position
-    requires { first + 4 ≤ length numbers.now }
-    ensures { result ≡ position (drop first numbers.now) }
+// Four numbers in the order of the axes.
+fn position_of(numbers: [i32; 4]) -> Position
+    ensures { result ≡ position numbers }
 {
-    Position {
-        x: numbers[first],
-        y: numbers[first + 1],
-        z: numbers[first + 2],
-        u: numbers[first + 3],
-    }
+    let [x, y, z, u] = numbers;
+    Position { x, y, z, u }
 }
 
 // lower X Y Z U, upper X Y Z U, home X Y Z U
-fn ends_of(numbers: &[i32]) -> Ends
-    requires { 12 ≤ length numbers.now }
-    ensures { result ≡ ends_of numbers.now }
+fn ends_of(numbers: [i32; 12]) -> Ends
+    ensures { result ≡ ends_of numbers }
 {
+    let [lx, ly, lz, lu, ux, uy, uz, uu, hx, hy, hz, hu] = numbers;
     Ends {
-        lower: position_at(numbers, 0),
-        upper: position_at(numbers, 4),
-        home: position_at(numbers, 8),
+        lower: position_of([lx, ly, lz, lu]),
+        upper: position_of([ux, uy, uz, uu]),
+        home: position_of([hx, hy, hz, hu]),
     }
 }
 
 fn gantry(text: &[u8]) -> Option<Command>
     ensures { option_map meant result ≡ as_gantry (numbers_of 12 (arguments text.now)) }
 {
-    Some(Command::Gantry(ends_of(&numbers::<12>(text)?)))
+    Some(Command::Gantry(ends_of(numbers::<12>(text)?)))
 }
 
 // It differs from the gantry in its count, its variant and the gap: one function would take all three.
 fn beam(text: &[u8]) -> Option<Command>
     ensures { option_map meant result ≡ as_beam (numbers_of 13 (arguments text.now)) }
 {
-    let numbers = numbers::<13>(text)?;
-    Some(Command::Beam(ends_of(&numbers), numbers[12]))
+    let [lx, ly, lz, lu, ux, uy, uz, uu, hx, hy, hz, hu, gap] = numbers::<13>(text)?;
+    let ends = ends_of([lx, ly, lz, lu, ux, uy, uz, uu, hx, hy, hz, hu]);
+    Some(Command::Beam(ends, gap))
 }
 
 fn allow(text: &[u8]) -> Option<Command>

@@ -15,27 +15,22 @@ pub enum Word {
 }
 
 // Command words are written in small letters exactly.
+const WORDS: [(&[u8], Word); 8] = [
+    (b"benchgantry", Word::BenchGantry),
+    (b"benchbeam", Word::BenchBeam),
+    (b"gantry", Word::Gantry),
+    (b"beam", Word::Beam),
+    (b"line", Word::Line),
+    (b"allow", Word::Allow),
+    (b"wipe", Word::Wipe),
+    (b"dry", Word::Dry),
+];
+
 pub(crate) fn word_of(text: &[u8]) -> Option<Word>
     ensures { result ≡ word_of text.now }
 {
-    // Tried, and not a `match`: its arm for all other texts keeps no fact of what they are not.
-    if text == b"benchgantry".as_slice() {
-        Some(Word::BenchGantry)
-    } else if text == b"benchbeam".as_slice() {
-        Some(Word::BenchBeam)
-    } else if text == b"gantry".as_slice() {
-        Some(Word::Gantry)
-    } else if text == b"beam".as_slice() {
-        Some(Word::Beam)
-    } else if text == b"line".as_slice() {
-        Some(Word::Line)
-    } else if text == b"allow".as_slice() {
-        Some(Word::Allow)
-    } else if text == b"wipe".as_slice() {
-        Some(Word::Wipe)
-    } else if text == b"dry".as_slice() {
-        Some(Word::Dry)
-    } else {
-        None
-    }
+    WORDS
+        .iter()
+        .find(|(name, _)| *name == text)
+        .map(|(_, word)| *word)
 }
