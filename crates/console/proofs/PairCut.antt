@@ -1,13 +1,28 @@
--- Two numbers as the code cuts them at the blank.
-use Rattle.std.proofs.Common.{◌≡◌, ℕ, ◌+◌, ◌-◌, List, length, take, drop, ℤ, Option, ap, ◌∙◌}
-use Rattle.std.proofs.lemmas.List.{take_rest, drop-drop}
+-- Two numbers as the code cuts them at the first blank.
+use Rattle.std.proofs.Common.{◌≡◌, ℕ, ◌+◌, ◌-◌, ◌<◌, true, false, eqb, List, [], length, take, drop, ℤ, Some, None, Option, MatchOption, unwrap_or, sym, refl, ap, ◌∙◌, arith}
+use Rattle.std.proofs.lemmas.Iterator.{index_from_first}
+use Rattle.std.proofs.lemmas.List.{drop_all, take_rest}
+use Rattle.std.specs.List.{AllWithin, HoldsAt}
 use Rattle.words.specs.Cuts.{until}
 use Rattle.words.specs.Numbers.{number_of}
 use Rattle.console.specs.RangeLines.{with_both, pair_of}
 
--- what follows the blank
-beyond : (bs : List ℕ) (n : ℕ) → n ≡ until 32 bs → take (length (take (length bs - n) (drop n bs)) - 1) (drop 1 (take (length bs - n) (drop n bs))) ≡ drop (until 32 bs + 1) bs
-beyond bs n e = rw (take_rest bs n) (take_rest (drop n bs) 1 ∙ drop-drop 1 n bs ∙ ap (λ k. drop (k + 1) bs) e)
+-- where a search finds it, or that there is none
+pub blank_at : (bs : List ℕ) (r : Option ℕ) → MatchOption r (AllWithin (λ b. eqb b 32 ≡ false) bs 0 (length bs)) (λ i. (i < length bs) × HoldsAt (λ b. eqb b 32 ≡ true) bs i × AllWithin (λ b. eqb b 32 ≡ false) bs 0 i) → until 32 bs ≡ unwrap_or r (length bs)
+blank_at = index_from_first (until 32) (λ b. eqb b 32 ≡ true) (λ b. eqb b 32 ≡ false) refl (λ b bs e. rw e refl) (λ b bs e. rw e refl)
 
-pub pair_cut : (p : ℕ) (bs : List ℕ) (n : ℕ) (lo hi : Option ℤ) → n ≡ until 32 bs → lo ≡ number_of (take n bs) → hi ≡ number_of (take (length (take (length bs - n) (drop n bs)) - 1) (drop 1 (take (length bs - n) (drop n bs)))) → with_both p lo hi ≡ pair_of p bs
-pair_cut p bs n lo hi e first second = ap (λ o. with_both p o hi) (first ∙ ap (λ k. number_of (take k bs)) e) ∙ ap (with_both p (number_of (take (until 32 bs) bs))) (second ∙ ap number_of (beyond bs n e))
+no_second : (p : ℕ) (lo : Option ℤ) → with_both p lo None ≡ None
+no_second p None = refl
+no_second p (Some x) = refl
+
+pub no_pair : (p : ℕ) (bs : List ℕ) → until 32 bs ≡ length bs → None ≡ pair_of p bs
+no_pair p bs e =
+    let rest : drop (until 32 bs + 1) bs ≡ [] = drop_all (until 32 bs + 1) bs (omega arith) in
+    sym (ap (λ l. with_both p (number_of (take (until 32 bs) bs)) (number_of l)) rest ∙ no_second p (number_of (take (until 32 bs) bs)))
+
+module _ (p : ℕ) (bs : List ℕ) (n : ℕ) (e : until 32 bs ≡ n) where
+  pub pair_cut : (lo hi : Option ℤ) → lo ≡ number_of (take n bs) → hi ≡ number_of (take (length bs - (n + 1)) (drop (n + 1) bs)) → with_both p lo hi ≡ pair_of p bs
+  pair_cut lo hi first second = rw (e, sym first) (ap (with_both p lo) (second ∙ ap number_of (take_rest bs (n + 1))))
+
+  pub no_first : None ≡ number_of (take n bs) → None ≡ pair_of p bs
+  no_first first = pair_cut None _ first refl

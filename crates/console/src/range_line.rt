@@ -3,7 +3,7 @@ ghost use Rattle.std.specs.Prelude.{◌≡◌, IfSome, Some};
 ghost use Rattle.console.specs.RangeLines.{pair_of, range_of, RangeIs};
 
 use model::range::Range;
-use words::{len_until, number};
+use words::number;
 
 // The range of values that a parameter may have; the parameter by its number, since numbers of none are refused later.
 #[derive(Clone, Copy)]
@@ -15,12 +15,9 @@ pub struct RangeLine {
 fn two_numbers(parameter: u8, text: &[u8]) -> Option<RangeLine>
     ensures { result ≡ pair_of parameter text.now }
 {
-    let n = len_until(text, b' ');
-    let [_, rest @ ..] = &text[n..] else {
-        return None;
-    };
-    let lo = number(&text[..n])?;
-    let hi = number(rest)?;
+    let blank = text.iter().position(|&b| b == b' ')?;
+    let lo = number(&text[..blank])?;
+    let hi = number(&text[blank + 1..])?;
     Some(RangeLine {
         parameter,
         range: Range { lo, hi },
