@@ -73,6 +73,7 @@ fn gantry(text: &[u8]) -> Option<Command>
 fn beam(text: &[u8]) -> Option<Command>
     ensures { option_map meant result ≡ as_beam (numbers_of 13 (arguments text.now)) }
 {
+    // `[ends @ .., gap]` was tried by value and by reference: the proof covers neither.
     let [lx, ly, lz, lu, ux, uy, uz, uu, hx, hy, hz, hu, gap] = numbers::<13>(text)?;
     let ends = ends_of([lx, ly, lz, lu, ux, uy, uz, uu, hx, hy, hz, hu]);
     Some(Command::Beam(ends, gap))
