@@ -17,7 +17,7 @@ fn pinned<D: Domain>(state: D, axis: Axis, n: i32) -> D
     state.narrow(axis.into(), Range { lo: n, hi: n })
 }
 
-// The axes at home, and each parameter in its allowed range.
+// The axes at home, and each parameter in its allowed range. The loop keeps its index, for a register is made of its number.
 pub(crate) fn begin<D: Domain>(home: Position, allowed: &[Range; PARAMETERS]) -> D
     ensures { result ≡ start D.lattice home allowed.now }
 {
