@@ -1,3 +1,4 @@
 pub mod Chains
 pub mod Words
 pub mod Finish
+pub mod Tables

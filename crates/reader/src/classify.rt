@@ -3,6 +3,7 @@ ghost use Rattle.std.specs.Prelude.{◌≡◌, ◌≤◌, length, slice_index};
 ghost use Rattle.std.specs.Str.Parse.{AllDigits};
 ghost use Rattle.lexer.specs.Classes.{class};
 ghost use Rattle.lexer.specs.declared.class.Class.TheVariants.{Digit};
+ghost use Rattle.reader.specs.Tables.{first_spelled};
 ghost use Rattle.grammar.specs.Symbols.{axis_of, relation_of, keyword_of, letters, mark, symbol_of};
 
 use grammar::symbol::{Keyword, Symbol};
@@ -12,61 +13,58 @@ use lexer::keyword::is_keyword;
 use model::expression::Rel;
 use model::line::Axis;
 
-// The words are tested one by one, here and below: a table of pairs would be as long, and its search one function more.
+// Words are written in either case.
+const AXES: [(&[u8], Axis); 4] = [
+    (b"X", Axis::X),
+    (b"Y", Axis::Y),
+    (b"Z", Axis::Z),
+    (b"U", Axis::U),
+];
+
+const RELATIONS: [(&[u8], Rel); 6] = [
+    (b"EQ", Rel::Eq),
+    (b"NE", Rel::Ne),
+    (b"LT", Rel::Lt),
+    (b"LE", Rel::Le),
+    (b"GT", Rel::Gt),
+    (b"GE", Rel::Ge),
+];
+
+const KEYWORDS: [(&[u8], Keyword); 6] = [
+    (b"G", Keyword::G),
+    (b"O", Keyword::O),
+    (b"WHILE", Keyword::While),
+    (b"IF", Keyword::If),
+    (b"ENDIF", Keyword::EndIf),
+    (b"ENDWHILE", Keyword::EndWhile),
+];
+
+// What stands beside the first word that s spells.
+fn named<A: Copy>(words: &[(&[u8], A)], s: &[u8]) -> Option<A>
+    ensures { result ≡ first_spelled s.now words.now }
+{
+    words
+        .iter()
+        .find(|(word, _)| is_keyword(s, word))
+        .map(|(_, a)| *a)
+}
+
 fn axis_of(s: &[u8]) -> Option<Axis>
     ensures { result ≡ axis_of s.now }
 {
-    if is_keyword(s, b"X") {
-        Some(Axis::X)
-    } else if is_keyword(s, b"Y") {
-        Some(Axis::Y)
-    } else if is_keyword(s, b"Z") {
-        Some(Axis::Z)
-    } else if is_keyword(s, b"U") {
-        Some(Axis::U)
-    } else {
-        None
-    }
+    named(&AXES, s)
 }
 
 fn relation_of(s: &[u8]) -> Option<Rel>
     ensures { result ≡ relation_of s.now }
 {
-    if is_keyword(s, b"EQ") {
-        Some(Rel::Eq)
-    } else if is_keyword(s, b"NE") {
-        Some(Rel::Ne)
-    } else if is_keyword(s, b"LT") {
-        Some(Rel::Lt)
-    } else if is_keyword(s, b"LE") {
-        Some(Rel::Le)
-    } else if is_keyword(s, b"GT") {
-        Some(Rel::Gt)
-    } else if is_keyword(s, b"GE") {
-        Some(Rel::Ge)
-    } else {
-        None
-    }
+    named(&RELATIONS, s)
 }
 
 fn keyword_of(s: &[u8]) -> Option<Keyword>
     ensures { result ≡ keyword_of s.now }
 {
-    if is_keyword(s, b"G") {
-        Some(Keyword::G)
-    } else if is_keyword(s, b"O") {
-        Some(Keyword::O)
-    } else if is_keyword(s, b"WHILE") {
-        Some(Keyword::While)
-    } else if is_keyword(s, b"IF") {
-        Some(Keyword::If)
-    } else if is_keyword(s, b"ENDIF") {
-        Some(Keyword::EndIf)
-    } else if is_keyword(s, b"ENDWHILE") {
-        Some(Keyword::EndWhile)
-    } else {
-        None
-    }
+    named(&KEYWORDS, s)
 }
 
 fn letters_of(s: &[u8]) -> Symbol
