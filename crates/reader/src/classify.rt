@@ -13,7 +13,7 @@ use lexer::keyword::is_keyword;
 use model::expression::Rel;
 use model::line::Axis;
 
-// Words are written in either case.
+// The tables have capitals; the text may have either case.
 const AXES: [(&[u8], Axis); 4] = [
     (b"X", Axis::X),
     (b"Y", Axis::Y),
@@ -49,6 +49,7 @@ fn named<A: Copy>(words: &[(&[u8], A)], s: &[u8]) -> Option<A>
         .map(|(_, a)| *a)
 }
 
+// A function for each table: its contract ties the table to the grammar's words.
 fn axis_of(s: &[u8]) -> Option<Axis>
     ensures { result ≡ axis_of s.now }
 {
