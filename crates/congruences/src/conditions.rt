@@ -28,7 +28,10 @@ impl Congruence {
         ensures { result ≡ kept rel self other }
     {
         match rel {
-            Rel::Eq => Pair::both(self.common(other), self.common(other)),
+            Rel::Eq => {
+                let common = self.common(other);
+                Pair::both(common, common)
+            }
             Rel::Ne | Rel::Lt | Rel::Le | Rel::Gt | Rel::Ge => self.unless(rel, other),
         }
     }
