@@ -26,7 +26,7 @@ fn first_input(text: &[u8]) -> Option<(&[u8], &[u8])>
 fn main(rt: HostRuntime) -> anyhow::Result<()> {
     let mut bytes = Vec::new(rt.alloc());
     rt.stdin().read_to_end(&mut bytes)?;
-    // Each input is cut off by the marker behind it, so what is left is handed on.
+    // Each input is cut off by the marker behind it, so what is left is handed on; an iterator for this one loop would be longer.
     let mut rest = bytes.as_slice();
     while let Some((input, more)) = first_input(rest) {
         let report = report_on(input);

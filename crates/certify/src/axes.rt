@@ -63,7 +63,7 @@ pub(crate) fn lowest_unshown<D: Domain, T: Travel>(state: &D, travel: &T) -> Opt
 fn hull_with(hull: Option<Range>, range: Range) -> Option<Range>
     ensures { result ≡ hull_with hull range }
 {
-    if range.hi < range.lo {
+    if range.is_empty() {
         return hull;
     }
     Some(hull.map_or(

@@ -14,7 +14,7 @@ use model::register::{AXES, PARAMETERS, Register};
 fn pinned<D: Domain>(state: D, axis: Axis, n: i32) -> D
     ensures { result ≡ D.lattice.narrow state (axis_register axis) (single n) }
 {
-    state.narrow(axis.into(), Range { lo: n, hi: n })
+    state.narrow(axis.into(), Range::single(n))
 }
 
 // The axes at home, and each parameter in its allowed range. The loop keeps its index, for a register is made of its number.

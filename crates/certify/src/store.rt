@@ -17,7 +17,8 @@ const ALWAYS: Condition = Condition {
     right: Term::Number(0),
 };
 
-// In a closed program each label that a line bears has a block.
+// In a closed program each label that a line bears has a block, so neither 0 here nor ALWAYS below is ever used: a type for closed
+// programs would ask more of callers.
 pub(crate) fn place(program: &Program, label: u16) -> usize
     ensures { result ≡ (blocks (held program.now)).place label }
 {
@@ -72,7 +73,7 @@ pub(crate) fn come<D: Domain>(store: &mut [D], place: usize, pass: Pass<D>) -> P
 pub(crate) fn clear<D: Domain>(store: &mut [D])
     ensures { store.new ≡ replicate (length store.old) D.lattice.none }
 {
-    // fill would ask for clones that cannot fail, which a type parameter does not promise
+    // Tried: `fill_with(D::none)`, which the borrow checker does not cover; `fill` asks for clones that cannot fail.
     for state in store.iter_mut() {
         *state = D::none();
     }

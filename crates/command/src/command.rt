@@ -11,14 +11,13 @@
 //
 // Anything else is no command. Command words are written in small letters exactly.
 ghost use Rattle.std.specs.Prelude.{◌≡◌, drop, option_map};
-ghost use Rattle.model.specs.Environments.{position};
 ghost use Rattle.command.specs.Words.{arguments};
 ghost use Rattle.command.specs.Numbers.{numbers_of};
 ghost use Rattle.command.specs.Commands.{meant, ends_of, as_gantry, as_beam, as_allow, as_dry, alone, chosen, command_of};
 
 use crate::numbers::numbers;
 use crate::word::{Word, word_of};
-use model::axes::{Ends, Position};
+use model::axes::Ends;
 use model::range::Range;
 use model::register::PARAMETERS;
 use words::len_until;
@@ -43,23 +42,15 @@ pub enum Command<'a> {
     },
 }
 
-// Four numbers in the order of the axes.
-fn position_of(numbers: [i32; 4]) -> Position
-    ensures { result ≡ position numbers }
-{
-    let [x, y, z, u] = numbers;
-    Position { x, y, z, u }
-}
-
 // lower X Y Z U, upper X Y Z U, home X Y Z U
 fn ends_of(numbers: [i32; 12]) -> Ends
     ensures { result ≡ ends_of numbers }
 {
     let [lx, ly, lz, lu, ux, uy, uz, uu, hx, hy, hz, hu] = numbers;
     Ends {
-        lower: position_of([lx, ly, lz, lu]),
-        upper: position_of([ux, uy, uz, uu]),
-        home: position_of([hx, hy, hz, hu]),
+        lower: [lx, ly, lz, lu].into(),
+        upper: [ux, uy, uz, uu].into(),
+        home: [hx, hy, hz, hu].into(),
     }
 }
 

@@ -1,5 +1,5 @@
 // Congruences from any modulus and any residue. The two go side by side, for they are no congruence yet.
-ghost use Rattle.std.specs.Prelude.{◌≡◌, ◌*◌, ◌<◌, ◌≤◌, pos, ◌≤ℤ◌};
+ghost use Rattle.std.specs.Prelude.{◌≡◌, ◌*◌, ◌<◌, ◌≤◌, pos, ◌≤ℤ◌, Some};
 ghost use Rattle.model.specs.Limits.{limit};
 ghost use Rattle.divisibility.specs.Multiples.{remainder};
 ghost use Rattle.congruences.specs.Settled.{checked, folded, settled};
@@ -23,14 +23,14 @@ pub fn checked_single(r: i64) -> Option<Congruence>
     }
 }
 
-fn reduced(m: u64, r: i64) -> Option<Congruence>
+fn reduced(m: u64, r: i64) -> Congruence
     requires { (0 < m) × (m ≤ 2 * limit) }
-    ensures { result ≡ checked m (remainder r m) }
+    ensures { Some result ≡ checked m (remainder r m) }
 {
-    Some(Congruence {
+    Congruence {
         modulus: m,
         residue: remainder(r, m),
-    })
+    }
 }
 
 // The one member within the limit; r is a remainder by m.
@@ -53,7 +53,7 @@ pub fn settled(m: u64, r: i64) -> Option<Congruence>
     if m == 0 {
         checked_single(r)
     } else if m <= 2 * LIMIT as u64 {
-        reduced(m, r)
+        Some(reduced(m, r))
     } else {
         folded(m, remainder(r, m))
     }

@@ -37,14 +37,15 @@ fn call<T: Travel>(session: &mut Session<T>, n: usize, command: Command) -> Resu
     Ok(Answer::Done)
 }
 
-// A constant's value is written out: it cannot name a part of another.
+const BENCH_LOWER: Position = Position {
+    x: 0,
+    y: 0,
+    z: -80_000,
+    u: 0,
+};
+
 const BENCH_GANTRY: Ends = Ends {
-    lower: Position {
-        x: 0,
-        y: 0,
-        z: -80_000,
-        u: 0,
-    },
+    lower: BENCH_LOWER,
     home: Position {
         x: 0,
         y: 0,
@@ -60,12 +61,7 @@ const BENCH_GANTRY: Ends = Ends {
 };
 
 const BENCH_BEAM: Ends = Ends {
-    lower: Position {
-        x: 0,
-        y: 0,
-        z: -80_000,
-        u: 0,
-    },
+    lower: BENCH_LOWER,
     home: Position {
         x: 0,
         y: 0,

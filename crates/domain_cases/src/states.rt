@@ -21,10 +21,6 @@ type Behind = Product<Fickle, Both>;
 
 const FIRST: Term = Term::Parameter(Parameter::P1);
 
-fn only(n: i32) -> Range {
-    Range { lo: n, hi: n }
-}
-
 fn check_range(rt: &impl Abort, found: Range, lo: i32, hi: i32) {
     assert!(rt; found == Range { lo, hi });
 }
@@ -43,8 +39,8 @@ fn ranks_of_none(rt: HostRuntime) {
 
 // 4 joined with 10, kept above 4: what is left of #1.
 fn above_four<D: Domain>() -> Range {
-    let four = D::any().narrow(Parameter::P1.into(), only(4));
-    let ten = D::any().narrow(Parameter::P1.into(), only(10));
+    let four = D::any().narrow(Parameter::P1.into(), Range::single(4));
+    let ten = D::any().narrow(Parameter::P1.into(), Range::single(10));
     let condition = Condition {
         rel: Rel::Gt,
         left: FIRST,

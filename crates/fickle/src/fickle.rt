@@ -22,7 +22,7 @@ pub enum Fickle {
 fn whole_or_empty(range: Range) -> Range
     ensures { result ≡ whole_or_empty range }
 {
-    if range.lo <= range.hi { range } else { EMPTY }
+    if range.is_empty() { EMPTY } else { range }
 }
 
 impl Domain for Fickle {

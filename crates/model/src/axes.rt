@@ -1,6 +1,7 @@
 // One thing for each axis.
 ghost use Rattle.std.specs.Prelude.{◌≡◌};
 ghost use Rattle.model.specs.Axes.{along, replaced};
+ghost use Rattle.model.specs.Environments.{position};
 
 use crate::line::Axis;
 
@@ -14,6 +15,15 @@ pub struct Axes<T> {
 
 // A number for each axis.
 pub type Position = Axes<i32>;
+
+impl From<[i32; 4]> for Position {
+    ghost from_gives = { λ numbers result. result ≡ position numbers };
+
+    fn from(numbers: [i32; 4]) -> Position {
+        let [x, y, z, u] = numbers;
+        Position { x, y, z, u }
+    }
+}
 
 // Where each axis may go, from lower to upper, and where it is at home.
 #[derive(Clone, Copy)]

@@ -1,5 +1,5 @@
 // A range of numbers.
-ghost use Rattle.std.specs.Prelude.{◌≡◌};
+ghost use Rattle.std.specs.Prelude.{◌≡◌, int_lt};
 ghost use Rattle.model.specs.Environments.{fit, lies};
 
 use crate::expression::LIMIT;
@@ -21,6 +21,20 @@ pub const FULL: Range = Range {
 pub const EMPTY: Range = Range { lo: 1, hi: 0 };
 
 impl Range {
+    // n..n
+    pub fn single(n: i32) -> Range
+        ensures { (result.lo ≡ n) × (result.hi ≡ n) }
+    {
+        Range { lo: n, hi: n }
+    }
+
+    // Whether no number lies in the range.
+    pub fn is_empty(self) -> bool
+        ensures { result ≡ int_lt self.hi self.lo }
+    {
+        self.hi < self.lo
+    }
+
     // Whether the number lies in the range.
     pub fn contains(self, n: i64) -> bool
         ensures { result ≡ lies n self }

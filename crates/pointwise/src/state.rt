@@ -95,8 +95,7 @@ fn merged<V: NumberSet, F: Fn(V, V) -> V>(
     }
 }
 
-// Each operation matches on what is there. Tried: `is_none_or` and `map_or`; of a closure in a generic function the proof knows only
-// the clauses that are written on it, and those are longer than the arms.
+// Each operation matches on what is there. Tried: `as_ref` with `is_none_or` and `map_or`, which leave their goals open.
 impl<V: NumberSet> Domain for Pointwise<V> {
     // one above what all sets together can be widened
     const NONE_RANK: u64 = V::MOST_WIDENINGS as u64 * REGISTERS as u64 + 1;

@@ -2,12 +2,12 @@
 
 #![tactic(auto)]
 
-use console::input::report_on;
+use console::input::{MAX_INPUT, report_on};
 use std::io;
 use std::io::Read;
 
 // One byte more than the longest input, so that a longer one shows.
-const ROOM: u64 = 32_769;
+const ROOM: u64 = MAX_INPUT as u64 + 1;
 
 fn main(rt: HostRuntime) -> io::Result<()> {
     let mut input = Vec::new(rt.alloc());

@@ -80,7 +80,8 @@ impl Run {
         }
     }
 
-    // The number of the line under the run, from 1; 0 where there is no run.
+    // The number of the line under the run, from 1; 0 where there is no run. No Option: a step without a run cannot fail, so that 0 is
+    // never told.
     pub fn line_number(&self, program: &Program) -> usize
         ensures { result ≡ number (held program.now) self.now.at }
     {
@@ -99,7 +100,7 @@ impl Run {
         ensures { result ≡ position self.now.registers }
     {
         let [x, y, z, u, ..] = self.registers;
-        Position { x, y, z, u }
+        [x, y, z, u].into()
     }
 
     fn line_under(&self, program: &Program) -> Option<Line>

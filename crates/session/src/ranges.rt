@@ -16,15 +16,15 @@ pub struct Ranges {
     ghost whole: { length each ≡ parameters },
 }
 
-// Whether the parameter, from 1, may be allowed the range. It is given by its number, since numbers of no parameter are refused here;
-// no struct goes round the two, for a script and an input read the number in other types.
+// Whether the parameter, from 1, may be allowed the range. It is given by its number, since numbers of no parameter are refused here.
+// No struct goes round the two: each caller would make it to hand it over at once.
 pub fn check_range(parameter: u32, range: Range) -> Result<(), AllowRefusal>
     ensures says { allow_said result ≡ allow_answer parameter range }
     ensures known { OnOk result ((1 ≤ parameter) × (parameter ≤ parameters)) }
 {
     if parameter < 1 || parameter > PARAMETERS as u32 {
         Err(AllowRefusal::Parameter)
-    } else if range.lo > range.hi || range.lo < -LIMIT || range.hi > LIMIT {
+    } else if range.is_empty() || range.lo < -LIMIT || range.hi > LIMIT {
         Err(AllowRefusal::Range)
     } else {
         Ok(())

@@ -14,7 +14,8 @@ pub fn holds(side: Side, p: Position) -> bool
     sum_at_most(side.a, v, side.b, w, side.c)
 }
 
-// The loop goes through numbers: by number, a travel need not hold its sides in a slice.
+// The loop goes through numbers, for a travel need not hold its sides in a slice. It stays beside the sweep's, which a rule wants
+// written out where the sweep is read.
 pub fn lowest_broken<T: Travel>(travel: &T, p: Position) -> Option<usize>
     ensures { result ≡ lowest (kept p) 0 (T.sides travel.now) }
 {

@@ -43,8 +43,8 @@ impl Program {
         }
     }
 
-    // The number of the innermost open block, if an end of this kind and label fits it. Kind and label
-    // stay two, as a line's role and a block have them.
+    // The number of the innermost open block, if an end of this kind and label fits it. Kind and label are compared together here
+    // alone; blocks are looked up by label, so the two are no struct.
     fn fitting(&self, kind: BlockKind, label: u16) -> Option<usize>
         ensures test { is_some result ≡ fits (open_blocks (held self.now)) kind label }
         ensures last { IfSome result (λ i. Last (held_blocks self.now) (Some i) × ((slice_index_or (held_blocks self.now) i no_block).label ≡ label)) }

@@ -13,7 +13,7 @@ impl Ranges {
         ensures { result.each ≡ no_ranges }
     {
         Ranges {
-            each: [Range { lo: 0, hi: 0 }; PARAMETERS],
+            each: [Range::single(0); PARAMETERS],
         }
     }
 
