@@ -1,13 +1,15 @@
 -- What the reader did is what the text is answered.
-use Rattle.std.proofs.Common.{◌≡◌, ℕ, ◌≤◌, true, cond, eqb, leb, List, length, drop, Ok, Err, Result, sym, ap, ◌∙◌, arith, Bor}
+use Rattle.std.proofs.Common.{◌≡◌, ℕ, ◌<◌, ◌≤◌, true, false, cond, eqb, leb, List, length, drop, Option, MatchOption, unwrap_or, Ok, Err, Result, sym, refl, ap, ◌∙◌, arith, Bor}
 use Rattle.std.proofs.lemmas.Bool.Decides.{nat_tests}
+use Rattle.std.proofs.lemmas.Iterator.{index_from_first}
+use Rattle.std.specs.List.{AllWithin, HoldsAt}
 use Rattle.lexer.specs.declared.lexer.Lexer.{Lexer}
 use Rattle.model.specs.declared.line.Line.{Line}
 use Rattle.grammar.specs.declared.refusal.Refusal.{Refusal}
 use Rattle.grammar.specs.Combinators.{Parsed, got, bad}
 use Rattle.grammar.specs.Parser.{line}
 use Rattle.grammar.specs.Symbols.{symbols}
-use Rattle.grammar.specs.Answer.{said, read, refused, front, answered, reading, clear, answer}
+use Rattle.grammar.specs.Answer.{said, read, refused, front, answered, reading, permitted, clear, answer}
 use Rattle.lexer.specs.Lexemes.{Lexeme, lexemes, lexemes_from}
 use Rattle.reader.specs.Parses.{ahead, Agrees, Parses}
 use Rattle.grammar.proofs.Texts.{dropped}
@@ -23,6 +25,10 @@ pub parses_reading : (a : Lexer) (r : Result Line Refusal) (b : Lexer) (text : B
 parses_reading a r b text z e d =
     let from : ahead a ≡ lexemes text.now = λ i. lexemes_from 0 (z i) (drop (z i) (e i).now) in
     told_by (line (symbols (ahead a))) (length a.text.now) (ahead a) (ahead b) r d.says ∙ (λ i. answered (from i) (length (e i).now) (line (symbols (from i))))
+
+-- ---- where a search finds the first byte that is not permitted, or that there is none
+pub clear_at : (s : List ℕ) (r : Option ℕ) → MatchOption r (AllWithin (λ b. permitted b ≡ true) s 0 (length s)) (λ i. (i < length s) × HoldsAt (λ b. permitted b ≡ false) s i × AllWithin (λ b. permitted b ≡ true) s 0 i) → clear s ≡ unwrap_or r (length s)
+clear_at = index_from_first clear (λ b. permitted b ≡ false) (λ b. permitted b ≡ true) refl (λ b bs e. rw e refl) (λ b bs e. rw e (omega arith))
 
 -- ---- a text that passes the two tests
 pub passed : (s : List ℕ) → length s ≤ 120 → clear s ≡ length s → answer s ≡ reading s

@@ -2,8 +2,8 @@
 
 #![tactic(auto)]
 
-ghost use Rattle.std.specs.Prelude.{◌≡◌, ◌≤◌, length};
-ghost use Rattle.grammar.specs.Answer.{said, answer, clear, permitted};
+ghost use Rattle.std.specs.Prelude.{◌≡◌};
+ghost use Rattle.grammar.specs.Answer.{said, answer, permitted};
 ghost use Rattle.grammar.specs.Law.{TheAnswer};
 
 use crate::reader::Reader;
@@ -25,14 +25,6 @@ fn allowed(b: u8) -> bool
     b.is_ascii_graphic() || b == b' '
 }
 
-// How many bytes at the front are allowed. One line: a function of the test would be as long.
-fn clear_len(text: &[u8]) -> usize
-    ensures is { result ≡ clear text.now }
-    ensures within { result ≤ length text.now }
-{
-    text.iter().take_while(|&&b| allowed(b)).count()
-}
-
 // The stored line that the text is, or why and where it is refused: the one answer that the grammar gives.
 pub fn read(text: &[u8]) -> Result<Line, Refusal>
     ensures law { TheAnswer text.now (said result) }
@@ -44,11 +36,10 @@ pub fn read(text: &[u8]) -> Result<Line, Refusal>
             place: MAX_TEXT,
         });
     }
-    let clear = clear_len(text);
-    if clear < text.len() {
+    if let Some(place) = text.iter().position(|&b| !allowed(b)) {
         return Err(Refusal {
             cause: Cause::Byte,
-            place: clear,
+            place,
         });
     }
     let mut reader = Reader::new(text);
