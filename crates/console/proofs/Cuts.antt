@@ -1,6 +1,8 @@
 -- A text cut at its first line feed.
-use Rattle.std.proofs.Common.{◌≡◌, ℕ, suc, ◌+◌, ◌-◌, ◌<◌, ◌≤◌, Bool, true, false, cond, eqb, List, [], ◌∷◌, length, take, drop, sym, refl, ap, ◌∙◌, subst, add-one, arith, length-drop}
-use Rattle.std.proofs.lemmas.List.{drop_all, take_rest}
+use Rattle.std.proofs.Common.{◌≡◌, ℕ, suc, ◌+◌, ◌-◌, ◌<◌, ◌≤◌, Bool, true, false, cond, eqb, List, [], ◌∷◌, length, take, drop, Option, MatchOption, unwrap_or, sym, refl, ap, ◌∙◌, subst, add-one, arith, length-drop}
+use Rattle.std.proofs.lemmas.Iterator.{index_from_first}
+use Rattle.std.proofs.lemmas.List.{take_rest}
+use Rattle.std.specs.List.{AllWithin, HoldsAt}
 use Rattle.words.specs.Cuts.{until}
 use Rattle.console.specs.Lines.{before, lines_of}
 
@@ -30,15 +32,16 @@ pub cut_rest : (bs : List ℕ) → (length bs ≡ 0 → ⊥) → length bs ≤ u
 cut_rest [] some h = absurd (some refl)
 cut_rest (b ∷ bs) some h = cut_none b bs h
 
--- the two ways of `first_line`
-pub line_there : (bs : List ℕ) (n : ℕ) → n ≡ until 10 bs → n < length bs → (lines_of bs ≡ take (n - 0) bs ∷ lines_of (take (length bs - (n + 1)) (drop (n + 1) bs))) × (length (take (length bs - (n + 1)) (drop (n + 1) bs)) < length bs)
-line_there bs n e h =
-    let cut = cut_there bs (subst (λ k. k < length bs) e h) in
-    let same : lines_of bs ≡ take n bs ∷ lines_of (drop (n + 1) bs) = subst (λ k. lines_of bs ≡ take k bs ∷ lines_of (drop (k + 1) bs)) (sym e) cut in
-    let none : n - 0 ≡ n = omega arith in
-    rw (take_rest bs (n + 1), none) (same, rw length-drop (omega arith))
+-- where a search finds the byte, or that there is none
+pub stop_at : (stop : ℕ) (bs : List ℕ) (r : Option ℕ) → MatchOption r (AllWithin (λ b. eqb b stop ≡ false) bs 0 (length bs)) (λ i. (i < length bs) × HoldsAt (λ b. eqb b stop ≡ true) bs i × AllWithin (λ b. eqb b stop ≡ false) bs 0 i) → until stop bs ≡ unwrap_or r (length bs)
+stop_at stop = index_from_first (until stop) (λ b. eqb b stop ≡ true) (λ b. eqb b stop ≡ false) refl (λ b bs e. rw e refl) (λ b bs e. rw e refl)
 
-pub line_last : (bs : List ℕ) (n : ℕ) → n ≡ until 10 bs → length bs ≤ n → (length bs ≡ 0 → ⊥) → (lines_of bs ≡ bs ∷ lines_of (take (length bs - n) (drop n bs))) × (length (take (length bs - n) (drop n bs)) < length bs)
-line_last bs n e h some =
-    let same : lines_of bs ≡ bs ∷ [] = cut_rest bs some (subst (λ k. length bs ≤ k) e h) in
-    rw (take_rest bs n, drop_all n bs h) (same, omega arith)
+-- the two ways of `first_line`
+pub line_there : (bs : List ℕ) (n : ℕ) → until 10 bs ≡ n → n < length bs → (lines_of bs ≡ take n bs ∷ lines_of (take (length bs - (n + 1)) (drop (n + 1) bs))) × (length (take (length bs - (n + 1)) (drop (n + 1) bs)) < length bs)
+line_there bs n e h =
+    let cut = cut_there bs (subst (λ k. k < length bs) (sym e) h) in
+    let same : lines_of bs ≡ take n bs ∷ lines_of (drop (n + 1) bs) = subst (λ k. lines_of bs ≡ take k bs ∷ lines_of (drop (k + 1) bs)) e cut in
+    rw (take_rest bs (n + 1)) (same, rw length-drop (omega arith))
+
+pub line_last : (bs : List ℕ) → until 10 bs ≡ length bs → (length bs ≡ 0 → ⊥) → (lines_of bs ≡ bs ∷ []) × (0 < length bs)
+line_last bs e some = (cut_rest bs some (omega (arith, e)), omega (arith, some))

@@ -1,15 +1,9 @@
 -- Two numbers as the code cuts them at the first blank.
-use Rattle.std.proofs.Common.{◌≡◌, ℕ, ◌+◌, ◌-◌, ◌<◌, true, false, eqb, List, [], length, take, drop, ℤ, Some, None, Option, MatchOption, unwrap_or, sym, refl, ap, ◌∙◌, arith}
-use Rattle.std.proofs.lemmas.Iterator.{index_from_first}
+use Rattle.std.proofs.Common.{◌≡◌, ℕ, ◌+◌, ◌-◌, List, [], length, take, drop, ℤ, Some, None, Option, sym, refl, ap, ◌∙◌, arith}
 use Rattle.std.proofs.lemmas.List.{drop_all, take_rest}
-use Rattle.std.specs.List.{AllWithin, HoldsAt}
 use Rattle.words.specs.Cuts.{until}
 use Rattle.words.specs.Numbers.{number_of}
 use Rattle.console.specs.RangeLines.{with_both, pair_of}
-
--- where a search finds it, or that there is none
-pub blank_at : (bs : List ℕ) (r : Option ℕ) → MatchOption r (AllWithin (λ b. eqb b 32 ≡ false) bs 0 (length bs)) (λ i. (i < length bs) × HoldsAt (λ b. eqb b 32 ≡ true) bs i × AllWithin (λ b. eqb b 32 ≡ false) bs 0 i) → until 32 bs ≡ unwrap_or r (length bs)
-blank_at = index_from_first (until 32) (λ b. eqb b 32 ≡ true) (λ b. eqb b 32 ≡ false) refl (λ b bs e. rw e refl) (λ b bs e. rw e refl)
 
 no_second : (p : ℕ) (lo : Option ℤ) → with_both p lo None ≡ None
 no_second p None = refl
