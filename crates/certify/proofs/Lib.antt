@@ -1,2 +1,3 @@
 pub mod Walks
 pub mod Sweeping
+pub mod Verdicts

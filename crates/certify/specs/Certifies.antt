@@ -15,6 +15,11 @@ use Rattle.certify.specs.declared.refusal.CertifyRefusal.TheVariants.{Open, Stor
 abbrev pub Answer : Type 0
 Answer = Result Certificate CertifyRefusal
 
+-- a verdict, as an answer
+abbrev pub answered : Verdict → Answer
+answered (certified hs) = Ok (record { hulls = hs })
+answered (uncertified f) = Err (Uncertified f)
+
 module _ {S : Type 0} (l : Lattice S) (lines : List Line) (sides : List Side) (home : Position) (allowed : List Range) (n : ℕ) where
   -- the program is closed, n states suffice, and the sweep that judges has this verdict
   pub record Judged (v : Verdict) : Type 0 where

@@ -1,11 +1,13 @@
 // Sweeps repeat until one is unchanged; that one judges.
 ghost use Rattle.std.specs.Prelude.{◌≡◌, ◌≤◌, length};
+ghost use Rattle.std.specs.List.{AllByRecursion};
 ghost use Rattle.model.specs.Blocks.{labels};
 ghost use Rattle.model.specs.Programs.{Closed};
+ghost use Rattle.model.specs.Written.{WrittenLine};
 ghost use Rattle.program.specs.Held.{held};
 ghost use Rattle.sweep.specs.Blocks.{blocks};
-ghost use Rattle.sweep.specs.Sweeps.{sweep, Settles};
-ghost use Rattle.certify.specs.Certifies.{TheVerdict, Promised, Untouched};
+ghost use Rattle.sweep.specs.Sweeps.{sweep, Settles, verdict_of};
+ghost use Rattle.certify.specs.Certifies.{answered, TheVerdict, Promised, Untouched};
 ghost use Rattle.certify.specs.Passes.{sweeping};
 
 use crate::begin::begin;
@@ -52,4 +54,37 @@ fn settle<D: Domain, T: Travel>(program: &Program, travel: &T, start: D, store: 
             return pass;
         }
     }
+}
+
+// What the sweep that judges has found.
+fn verdict<D: Domain>(pass: Pass<D>) -> Result<Certificate, CertifyRefusal>
+    ensures { result ≡ answered (verdict_of pass.failing pass.hulls) }
+{
+    match pass.failing {
+        None => Ok(Certificate { hulls: pass.hulls }),
+        Some(failure) => Err(CertifyRefusal::Uncertified(failure)),
+    }
+}
+
+// The verdict on a program, in the domain at hand. What the lent states were before does not matter; there is one for each block.
+pub fn certify<D: Domain, T: Travel>(
+    program: &Program,
+    travel: &T,
+    allowed: &[Range; PARAMETERS],
+    store: &mut [D],
+) -> Result<Certificate, CertifyRefusal>
+    ensures verdict { TheVerdict D.lattice (held program.now) (T.sides travel.now) (T.origin travel.now) allowed.now (length store.old) result }
+    ensures promised { AllByRecursion WrittenLine (held program.now) → Promised (held program.now) (T.sides travel.now) (T.origin travel.now) allowed.now result }
+    ensures untouched { Untouched result store.old store.new }
+{
+    if !program.is_closed() {
+        return Err(CertifyRefusal::Open);
+    }
+    if store.len() < program.block_count() {
+        return Err(CertifyRefusal::Store);
+    }
+    clear(store);
+    let start = begin(travel.home(), allowed);
+    let pass = settle(program, travel, start, store);
+    verdict(pass)
 }
