@@ -3,6 +3,7 @@ ghost use Rattle.std.specs.Prelude.{◌≡◌, true, []};
 ghost use Rattle.program.specs.Racks.{listed};
 ghost use Rattle.program.specs.Refusals.{all_taken};
 ghost use Rattle.program.specs.Agree.{Agrees};
+ghost use Rattle.program.specs.Written.{all_written};
 
 use crate::rack::Rack;
 use model::block::Block;
@@ -21,5 +22,6 @@ pub struct Program {
     lines: Rack<Line, MAX_LINES>,
     blocks: Rack<Block, MAX_BLOCKS>,
     ghost taken: { all_taken [] (listed lines) ≡ true },
+    ghost written: { all_written (listed lines) ≡ true },
     ghost agrees: { ∥ Agrees (listed lines) (listed blocks) ∥₁ },
 }

@@ -2,6 +2,7 @@
 ghost use Rattle.std.specs.Prelude.{◌≡◌, ◌<◌, false, ◌&&◌, [], ◌∷◌, ◌++◌, length, is_some, IfSome, is_ok, Some, ◌==◌, slice_index_or};
 ghost use Rattle.model.specs.declared.block.Role.TheVariants.{Opens, Ends, Neither};
 ghost use Rattle.model.specs.Blocks.{role_of, open_blocks, labels};
+ghost use Rattle.model.specs.Written.{WrittenLine};
 ghost use Rattle.program.specs.Agree.{Last, no_block};
 ghost use Rattle.program.specs.Held.{held, held_blocks};
 ghost use Rattle.program.specs.Refusals.{max_lines, same_kind, fits, role_answer, push_answer, pushed};
@@ -58,6 +59,7 @@ impl Program {
     // Adds a line that is no block's first or end.
     fn keep(&mut self, line: Line)
         requires room { length (held self.old) < max_lines }
+        requires written { WrittenLine line }
         requires role { role_of line ≡ Neither }
         ensures { held self.new ≡ held self.old ++ (line ∷ []) }
     {
@@ -73,6 +75,7 @@ impl Program {
         condition: Condition,
     ) -> Result<(), TableRefusal>
         requires room { length (held self.old) < max_lines }
+        requires written { WrittenLine line }
         requires role { role_of line ≡ Opens kind label condition }
         ensures says { result ≡ role_answer (open_blocks (held self.old)) (labels (held self.old)) (Opens kind label condition) }
         ensures held { held self.new ≡ pushed result (held self.old) line }
@@ -99,6 +102,7 @@ impl Program {
     // Adds a line that ends the innermost open block, unless it is no end of that.
     fn end(&mut self, line: Line, kind: BlockKind, label: u16) -> Result<(), TableRefusal>
         requires room { length (held self.old) < max_lines }
+        requires written { WrittenLine line }
         requires role { role_of line ≡ Ends kind label }
         ensures says { result ≡ role_answer (open_blocks (held self.old)) (labels (held self.old)) (Ends kind label) }
         ensures held { held self.new ≡ pushed result (held self.old) line }
@@ -115,7 +119,8 @@ impl Program {
     }
 
     // Adds a line, or says why not and changes nothing.
-    pub fn push(&mut self, line: Line) -> Result<(), TableRefusal>
+    pub(crate) fn push(&mut self, line: Line) -> Result<(), TableRefusal>
+        requires { WrittenLine line }
         ensures says { result ≡ push_answer (held self.old) line }
         ensures held { held self.new ≡ pushed result (held self.old) line }
         ensures same { is_ok result ≡ false → self.new ≡ self.old }
