@@ -4,7 +4,6 @@ use Rattle.std.proofs.lemmas.Bool.{both_ways}
 use Rattle.model.specs.declared.line.Line.{Line}
 use Rattle.model.specs.declared.range.Range.{Range}
 use Rattle.model.specs.declared.side.Side.{Side}
-use Rattle.model.specs.declared.ending.Failure.{Failure}
 use Rattle.model.specs.Axes.{Position}
 use Rattle.model.specs.Blocks.{closed, labels}
 use Rattle.std.specs.List.{AllByRecursion}

@@ -1,9 +1,7 @@
 // Sweeps repeat until one is unchanged; that one judges.
 ghost use Rattle.std.specs.Prelude.{◌≡◌, ◌≤◌, length};
-ghost use Rattle.std.specs.List.{AllByRecursion};
 ghost use Rattle.model.specs.Blocks.{labels};
 ghost use Rattle.model.specs.Programs.{Closed};
-ghost use Rattle.model.specs.Written.{WrittenLine};
 ghost use Rattle.program.specs.Held.{held};
 ghost use Rattle.sweep.specs.Blocks.{blocks};
 ghost use Rattle.sweep.specs.Sweeps.{sweep, Settles, verdict_of};
@@ -74,7 +72,7 @@ pub fn certify<D: Domain, T: Travel>(
     store: &mut [D],
 ) -> Result<Certificate, CertifyRefusal>
     ensures verdict { TheVerdict D.lattice (held program.now) (T.sides travel.now) (T.origin travel.now) allowed.now (length store.old) result }
-    ensures promised { AllByRecursion WrittenLine (held program.now) → Promised (held program.now) (T.sides travel.now) (T.origin travel.now) allowed.now result }
+    ensures promised { Promised (held program.now) (T.sides travel.now) (T.origin travel.now) allowed.now result }
     ensures untouched { Untouched result store.old store.new }
 {
     if !program.is_closed() {

@@ -1,6 +1,7 @@
-use Rattle.std.proofs.Common.{◌≡◌, ◌≤◌, length, sym, refl, arith}
+use Rattle.std.proofs.Common.{◌≤◌, length, sym, refl, arith}
 use Rattle.model.specs.Blocks.{labels}
 use Rattle.program.specs.Held.{held}
+use Rattle.program.proofs.Written.{passing_lines}
 use Rattle.sweep.specs.Sound.{Judges}
 use Rattle.certify.specs.Passes.{sweeping}
 use Rattle.certify.proofs.Verdicts.{judges_by, verdict_only, promised_by, untouched_by}
@@ -20,6 +21,6 @@ returns g c =
     let closes = sym c.if-not-is_closed.ensures.is in
     record {
       verdict = verdict_only l lines sides home allowed n closes enough w judges c.verdict.result c.verdict.ensures;
-      promised = λ written. promised_by l g.met.D.Domain.lawful lines sides home allowed n w c.verdict.result (c.if-not-is_closed.ensures.closed refl) written c.told-allowed enough judges c.verdict.ensures;
+      promised = promised_by l g.met.D.Domain.lawful lines sides home allowed n w c.verdict.result (c.if-not-is_closed.ensures.closed refl) (passing_lines lines c.args.program.now.written) c.told-allowed enough judges c.verdict.ensures;
       untouched = untouched_by _ _ _ _ c.verdict.ensures;
     }
