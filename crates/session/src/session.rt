@@ -1,15 +1,19 @@
 // A session on one travel.
-ghost use Rattle.std.specs.Prelude.{◌≡◌, false, is_ok, IfOk};
+ghost use Rattle.std.specs.Prelude.{◌≡◌, false, length, is_ok, IfOk};
 ghost use Rattle.std.specs.List.{list_all};
 ghost use Rattle.model.specs.Environments.{fit};
 ghost use Rattle.model.specs.Whole.{TheEnding};
 ghost use Rattle.program.specs.Entry.{line_said, line_answer};
 ghost use Rattle.runner.specs.Drying.{start};
 ghost use Rattle.session.specs.Answers.{allow_said, allow_answer, dry_said, dry_answer};
-ghost use Rattle.session.specs.Memory.{memory, blank, after_line, after_allow};
+ghost use Rattle.certify.specs.Certifies.{TheVerdict, Promised, Untouched};
+ghost use Rattle.session.specs.Memory.{memory, blank, after_line, after_allow, after_certify, judged};
 
 use crate::ranges::Ranges;
 use crate::refusal::{AllowRefusal, DryRefusal};
+use certify::judge::certify;
+use certify::refusal::{Certificate, CertifyRefusal};
+use domain::domain::Domain;
 use model::ending::Ending;
 use model::range::{Range, fits};
 use model::register::PARAMETERS;
@@ -27,6 +31,8 @@ pub struct Session<T> {
     travel: T,
     program: Program,
     ranges: Ranges,
+    // the one that stands
+    certificate: Option<Certificate>,
 }
 
 fn all_fit(values: &[i32]) -> bool
@@ -45,6 +51,7 @@ impl<T: Travel> Session<T> {
             travel,
             program: Program::new(),
             ranges: Ranges::new(),
+            certificate: None,
         }
     }
 
@@ -55,7 +62,9 @@ impl<T: Travel> Session<T> {
         ensures travel { self.new.travel ≡ self.old.travel }
         ensures untouched { is_ok result ≡ false → self.new ≡ self.old }
     {
-        self.program.line(text)
+        self.program.line(text)?;
+        self.certificate = None;
+        Ok(())
     }
 
     // Allows a parameter a range.
@@ -65,7 +74,9 @@ impl<T: Travel> Session<T> {
         ensures travel { self.new.travel ≡ self.old.travel }
         ensures untouched { is_ok result ≡ false → self.new ≡ self.old }
     {
-        self.ranges.allow(parameter, range)
+        self.ranges.allow(parameter, range)?;
+        self.certificate = None;
+        Ok(())
     }
 
     // Forgets lines and ranges.
@@ -75,6 +86,25 @@ impl<T: Travel> Session<T> {
     {
         self.program = Program::new();
         self.ranges = Ranges::new();
+        self.certificate = None;
+    }
+
+    // The verdict on the program, in the domain at hand, with one lent state for each block.
+    pub fn certify<D: Domain>(&mut self, store: &mut [D]) -> Result<Certificate, CertifyRefusal>
+        ensures verdict { TheVerdict D.lattice (memory self.old).program (T.sides self.old.travel) (T.origin self.old.travel) (memory self.old).allowed (length store.old) result }
+        ensures promised { Promised (memory self.old).program (T.sides self.old.travel) (T.origin self.old.travel) (memory self.old).allowed result }
+        ensures does { memory self.new ≡ after_certify (memory self.old) result }
+        ensures travel { self.new.travel ≡ self.old.travel }
+        ensures store { Untouched result store.old store.new }
+        ensures untouched { judged result ≡ false → self.new ≡ self.old }
+    {
+        let result = certify(&self.program, &self.travel, self.ranges.each(), store);
+        match result {
+            Ok(certificate) => self.certificate = Some(certificate),
+            Err(CertifyRefusal::Uncertified(_)) => self.certificate = None,
+            Err(CertifyRefusal::Open | CertifyRefusal::Store) => {}
+        }
+        result
     }
 
     // What at most so many steps from home, with these values, would come to.

@@ -17,6 +17,12 @@ impl Ranges {
         }
     }
 
+    pub(crate) fn each(&self) -> &[Range; PARAMETERS]
+        ensures { result.now ≡ self.now.each }
+    {
+        &self.each
+    }
+
     // Allows the parameter, from 1, a range, or says why not and changes nothing.
     pub fn allow(&mut self, parameter: u32, range: Range) -> Result<(), AllowRefusal>
         ensures says { allow_said result ≡ allow_answer parameter range }
