@@ -15,6 +15,7 @@ use Rattle.travel.specs.declared.gantry.Gantry.{Gantry}
 use Rattle.either.specs.declared.Either.{Either}
 use Rattle.either.specs.declared.Either.TheVariants.{Left, Right}
 use Rattle.travel.specs.declared.refusal.TravelRefusal.{TravelRefusal}
+use Rattle.travel.specs.Benches.{bench_gantry, bench_beam, bench_gap}
 use Rattle.travel.specs.Beams.{beam_sides, BeamMade}
 use Rattle.travel.specs.Eithers.{either}
 use Rattle.travel.specs.Gantries.{gantry_sides, GantryMade}
@@ -52,24 +53,6 @@ Calls ss h m n (gantry ends) a after = (a ≡ bad_at n) × (after ≡ m)
 Calls ss h m n (beam ends gap) a after = (a ≡ bad_at n) × (after ≡ m)
 
 -- ---- tables
--- the tables of the examples
-abbrev pub bench_lower : Position
-bench_lower = record { x = pos 0; y = pos 0; z = negsuc 79999; u = pos 0 }
-
-abbrev pub bench_gantry : Ends
-bench_gantry = record {
-  lower = bench_lower;
-  home = record { x = pos 0; y = pos 0; z = pos 0; u = pos 0 };
-  upper = record { x = pos 2500000; y = pos 1250000; z = pos 0; u = pos 0 };
-}
-
-abbrev pub bench_beam : Ends
-bench_beam = record {
-  lower = bench_lower;
-  home = record { x = pos 0; y = pos 0; z = pos 0; u = pos 2500000 };
-  upper = record { x = pos 2500000; y = pos 1250000; z = pos 0; u = pos 2500000 };
-}
-
 abbrev pub Table : Type 0
 Table = Either Gantry Beam
 
@@ -95,7 +78,7 @@ NoTable (Some r) = ⊥
 -- the table that a command names, if it names one
 abbrev pub Names : Meant → Option (Result Table TravelRefusal) → Type 0
 Names ask_gantry r = SomeTable (OnGantry bench_gantry) r
-Names ask_beam r = SomeTable (OnBeam bench_beam (pos 90000)) r
+Names ask_beam r = SomeTable (OnBeam bench_beam bench_gap) r
 Names (gantry ends) r = SomeTable (OnGantry ends) r
 Names (beam ends gap) r = SomeTable (OnBeam ends gap) r
 Names (line s) r = NoTable r

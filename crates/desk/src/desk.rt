@@ -3,14 +3,16 @@ ghost use Rattle.std.specs.Prelude.{◌≡◌, Ok};
 ghost use Rattle.command.specs.Commands.{meant, command_of};
 ghost use Rattle.session.specs.Memory.{memory};
 ghost use Rattle.desk.specs.Answers.{said, said_or_why};
-ghost use Rattle.desk.specs.Serving.{Calls, OnGantry, OnBeam, Names, Changes, Serves, bench_gantry};
+ghost use Rattle.travel.specs.Benches.{bench_gantry};
+ghost use Rattle.desk.specs.Serving.{Calls, OnGantry, OnBeam, Names, Changes, Serves};
 
 use crate::answer::{Answer, Refusal};
 use command::command::{Command, read_command};
 use either::Either;
-use model::axes::{Ends, Position};
+use model::axes::Ends;
 use session::session::Session;
 use travel::beam::Beam;
+use travel::bench::{BENCH_BEAM, BENCH_GANTRY, BENCH_GAP};
 use travel::gantry::Gantry;
 use travel::refusal::TravelRefusal;
 use travel::travel::Travel;
@@ -36,47 +38,6 @@ fn call<T: Travel>(session: &mut Session<T>, n: usize, command: Command) -> Resu
     }
     Ok(Answer::Done)
 }
-
-const BENCH_LOWER: Position = Position {
-    x: 0,
-    y: 0,
-    z: -80_000,
-    u: 0,
-};
-
-const BENCH_GANTRY: Ends = Ends {
-    lower: BENCH_LOWER,
-    home: Position {
-        x: 0,
-        y: 0,
-        z: 0,
-        u: 0,
-    },
-    upper: Position {
-        x: 2_500_000,
-        y: 1_250_000,
-        z: 0,
-        u: 0,
-    },
-};
-
-const BENCH_BEAM: Ends = Ends {
-    lower: BENCH_LOWER,
-    home: Position {
-        x: 0,
-        y: 0,
-        z: 0,
-        u: 2_500_000,
-    },
-    upper: Position {
-        x: 2_500_000,
-        y: 1_250_000,
-        z: 0,
-        u: 2_500_000,
-    },
-};
-
-const BENCH_GAP: i32 = 90_000;
 
 // A table of each kind, in one line each: one function for both would take the variant and the gap.
 fn on_gantry(ends: Ends) -> Result<Table, TravelRefusal>

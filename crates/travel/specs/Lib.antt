@@ -5,3 +5,4 @@ pub mod Beams
 pub mod BeamLaw
 pub mod GantryLaw
 pub mod Eithers
+pub mod Benches

@@ -3,6 +3,7 @@
 #![tactic(auto)]
 
 pub mod beam;
+pub mod bench;
 mod either_travel;
 pub mod gantry;
 pub mod refusal;
