@@ -3,5 +3,6 @@
 #![tactic(auto)]
 
 pub mod command;
+mod names;
 pub mod numbers;
 pub mod word;

@@ -2,6 +2,8 @@
 ghost use Rattle.std.specs.Prelude.{◌≡◌};
 ghost use Rattle.command.specs.Words.{word_of};
 
+use crate::names::look_up;
+
 #[derive(Clone, Copy)]
 pub enum Word {
     BenchGantry,
@@ -29,8 +31,5 @@ const WORDS: [(&[u8], Word); 8] = [
 pub(crate) fn word_of(text: &[u8]) -> Option<Word>
     ensures { result ≡ word_of text.now }
 {
-    WORDS
-        .iter()
-        .find(|(name, _)| *name == text)
-        .map(|(_, word)| *word)
+    look_up(&WORDS, text)
 }
