@@ -1,16 +1,15 @@
 -- Exactly so many numbers, read one after the other.
-use Rattle.std.proofs.Common.{◌≡◌, ℕ, suc, ◌+◌, ◌-◌, ◌<◌, ◌≤◌, Bool, true, false, cond, eqb, List, [], ◌∷◌, ◌++◌, length, take, drop, set, ℤ, Some, None, Option, sym, refl, ap, ◌∙◌, append_assoc, arith, length-set}
+use Rattle.std.proofs.Common.{◌≡◌, ℕ, suc, ◌+◌, ◌-◌, ◌<◌, ◌≤◌, Bool, true, false, cond, eqb, List, [], ◌∷◌, ◌++◌, length, take, set, ℤ, Some, None, Option, sym, refl, ap, ◌∙◌, append_assoc, arith, length-set}
 use Rattle.std.proofs.lemmas.Bool.{eqb-true, eqb-false}
 use Rattle.std.proofs.lemmas.List.{take_more_set, take_all, append-nil}
-use Rattle.words.specs.Cuts.{until}
-use Rattle.command.specs.Words.{words_of, arguments}
+use Rattle.command.specs.Words.{arguments}
 use Rattle.words.specs.Numbers.{number_of}
 use Rattle.command.specs.Numbers.{put, numbers_of}
-use Rattle.command.proofs.Blanks.{cut_at, no_argument, some_argument}
+use Rattle.command.proofs.Blanks.{no_argument, some_argument}
 
--- the number in the first word of what follows a blank
-pub first_number : (bs rest : List ℕ) (n : ℕ) (o : Option ℤ) → arguments bs ≡ words_of rest → n ≡ until 32 rest → o ≡ number_of (take (n - 0) rest) → (k : ℕ) → numbers_of (suc k) (arguments bs) ≡ put o (numbers_of k (arguments (take (length rest - n) (drop n rest))))
-first_number bs rest n o same e is k = ap (numbers_of (suc k)) (same ∙ cut_at rest n e) ∙ ap (λ x. put x (numbers_of k (arguments (take (length rest - n) (drop n rest))))) (sym is)
+-- the number in the first word
+pub first_number : (ws : List (List ℕ)) (w : List ℕ) (more : List (List ℕ)) (o : Option ℤ) → ws ≡ w ∷ more → o ≡ number_of w → (k : ℕ) → numbers_of (suc k) ws ≡ put o (numbers_of k more)
+first_number ws w more o same is k = ap (numbers_of (suc k)) same ∙ ap (λ x. put x (numbers_of k more)) (sym is)
 
 -- numbers that were read, in front of those to come
 abbrev pub prepend : List ℤ → Option (List ℤ) → Option (List ℤ)

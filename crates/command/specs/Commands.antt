@@ -4,9 +4,10 @@ use Rattle.model.specs.declared.range.Range.{Range}
 use Rattle.model.specs.declared.axes.Ends.{Ends}
 use Rattle.model.specs.Environments.{at, position, parameters}
 use Rattle.command.specs.declared.command.Command.{Command}
+use Rattle.command.specs.declared.domain_name.DomainName.{DomainName}
 use Rattle.command.specs.declared.word.Word.{Word}
-use Rattle.command.specs.declared.word.Word.TheVariants.{BenchGantry, BenchBeam, Gantry, Beam, Line, Allow, Wipe, Dry}
-use Rattle.command.specs.Words.{words_of, word_of}
+use Rattle.command.specs.declared.word.Word.TheVariants.{BenchGantry, BenchBeam, Gantry, Beam, Line, Allow, Wipe, Dry, Certify}
+use Rattle.command.specs.Words.{words_of, word_of, domain_of}
 use Rattle.command.specs.Numbers.{numbers_of}
 
 -- what a command means: the text of a line is its bytes
@@ -19,6 +20,7 @@ pub data Meant : Type 0 where
   allow : (parameter : ℤ) (range : Range) → Meant
   wipe : Meant
   dry : (values : List ℤ) (steps : ℕ) → Meant
+  certify : (domain : DomainName) (states : ℕ) → Meant
 
 abbrev pub meant : Command → Meant
 meant Command.BenchGantry = bench_gantry
@@ -29,6 +31,7 @@ meant (Command.Line text) = line text.now
 meant (Command.Allow parameter range) = allow parameter range
 meant Command.Wipe = wipe
 meant (Command.Dry values steps) = dry values steps
+meant (Command.Certify domain states) = certify domain states
 
 -- lower X Y Z U, upper X Y Z U, home X Y Z U
 abbrev pub ends_of : List ℤ → Ends
@@ -58,6 +61,21 @@ abbrev pub as_dry : Option (List ℤ) → Option Meant
 as_dry None = None
 as_dry (Some ns) = with_steps (take parameters ns) (at ns parameters)
 
+-- a count of states is not negative
+abbrev pub with_states : DomainName → ℤ → Option Meant
+with_states d (pos n) = Some (certify d n)
+with_states d (negsuc n) = None
+
+abbrev pub in_domain : Option DomainName → Option (List ℤ) → Option Meant
+in_domain None o = None
+in_domain (Some d) None = None
+in_domain (Some d) (Some ns) = with_states d (at ns 0)
+
+-- a domain and a count of states
+abbrev pub as_certify : List (List ℕ) → Option Meant
+as_certify [] = None
+as_certify (w ∷ ws) = in_domain (domain_of w) (numbers_of 1 ws)
+
 -- no word follows
 abbrev pub alone : Meant → List (List ℕ) → Option Meant
 alone m [] = Some m
@@ -73,6 +91,7 @@ chosen Line ws text = Some (line text)
 chosen Allow ws text = as_allow (numbers_of 3 ws)
 chosen Wipe ws text = alone wipe ws
 chosen Dry ws text = as_dry (numbers_of 7 ws)
+chosen Certify ws text = as_certify ws
 
 abbrev pub asked : Option Word → List (List ℕ) → List ℕ → Option Meant
 asked None ws text = None

@@ -2,7 +2,9 @@
 use Rattle.std.specs.Prelude.{ℕ, cond, List, [], ◌∷◌, Some, None, codes, Option, ◌==◌}
 use Rattle.std.specs.Str.{bytes_eq}
 use Rattle.command.specs.declared.word.Word.{Word}
-use Rattle.command.specs.declared.word.Word.TheVariants.{BenchGantry, BenchBeam, Gantry, Beam, Line, Allow, Wipe, Dry}
+use Rattle.command.specs.declared.word.Word.TheVariants.{BenchGantry, BenchBeam, Gantry, Beam, Line, Allow, Wipe, Dry, Certify}
+use Rattle.command.specs.declared.domain_name.DomainName.{DomainName}
+use Rattle.command.specs.declared.domain_name.DomainName.TheVariants.{Intervals, Congruences, IntervalsAndCongruences, CongruencesAndIntervals, TwiceIntervals}
 
 -- a byte in front of the first word
 abbrev pub before : ℕ → List (List ℕ) → List (List ℕ)
@@ -24,10 +26,27 @@ word_of w =
     (cond (bytes_eq w (codes "line")) (Some Line)
     (cond (bytes_eq w (codes "allow")) (Some Allow)
     (cond (bytes_eq w (codes "wipe")) (Some Wipe)
-    (cond (bytes_eq w (codes "dry")) (Some Dry) None)))))))
+    (cond (bytes_eq w (codes "dry")) (Some Dry)
+    (cond (bytes_eq w (codes "certify")) (Some Certify) None))))))))
+
+-- a product's sides are joined by a star
+abbrev pub domain_of : List ℕ → Option DomainName
+domain_of w =
+    cond (bytes_eq w (codes "intervals")) (Some Intervals)
+    (cond (bytes_eq w (codes "congruences")) (Some Congruences)
+    (cond (bytes_eq w (codes "intervals*congruences")) (Some IntervalsAndCongruences)
+    (cond (bytes_eq w (codes "congruences*intervals")) (Some CongruencesAndIntervals)
+    (cond (bytes_eq w (codes "intervals*intervals")) (Some TwiceIntervals) None))))
 
 -- ---- for the parts of the reading
 -- the words of what follows the first word, each after one blank; where there is no blank, one that is empty
 abbrev pub arguments : List ℕ → List (List ℕ)
 arguments [] = []
 arguments (b ∷ bs) = cond (b == 32) (words_of bs) ([] ∷ [])
+
+-- no word, or one that is empty
+abbrev pub NoWord : List (List ℕ) → Type 0
+NoWord [] = Unit {0}
+NoWord ([] ∷ []) = Unit {0}
+NoWord ([] ∷ w ∷ ws) = ⊥
+NoWord ((b ∷ bs) ∷ ws) = ⊥

@@ -8,14 +8,16 @@
 //     allow N N N          parameter, low, high
 //     wipe
 //     dry N*7              six values and a count of steps, which is not negative
+//     certify DOMAIN N     the domain by its name, and how many states are lent, which is not negative
 //
 // Anything else is no command. Command words are written in small letters exactly.
 ghost use Rattle.std.specs.Prelude.{◌≡◌, drop, option_map};
 ghost use Rattle.command.specs.Words.{arguments};
 ghost use Rattle.command.specs.Numbers.{numbers_of};
-ghost use Rattle.command.specs.Commands.{meant, ends_of, as_gantry, as_beam, as_allow, as_dry, alone, chosen, command_of};
+ghost use Rattle.command.specs.Commands.{meant, ends_of, as_gantry, as_beam, as_allow, as_dry, as_certify, alone, chosen, command_of};
 
-use crate::numbers::numbers;
+use crate::domain_name::{DomainName, domain_of};
+use crate::numbers::{next_word, numbers};
 use crate::word::{Word, word_of};
 use model::axes::Ends;
 use model::range::Range;
@@ -39,6 +41,10 @@ pub enum Command<'a> {
     Dry {
         values: [i32; PARAMETERS],
         steps: u32,
+    },
+    Certify {
+        domain: DomainName,
+        states: u32,
     },
 }
 
@@ -90,6 +96,18 @@ fn dry(text: &[u8]) -> Option<Command>
     })
 }
 
+fn certify(text: &[u8]) -> Option<Command>
+    ensures { option_map meant result ≡ as_certify (arguments text.now) }
+{
+    let (name, rest) = next_word(text)?;
+    let domain = domain_of(name)?;
+    let [states] = numbers::<1>(rest)?;
+    Some(Command::Certify {
+        domain,
+        states: u32::try_from(states).ok()?,
+    })
+}
+
 // What follows one blank.
 fn line_text(text: &[u8]) -> &[u8]
     ensures { result.now ≡ drop 1 text.now }
@@ -121,6 +139,7 @@ fn command_by(word: Word, text: &[u8]) -> Option<Command>
         Word::Allow => allow(text),
         Word::Wipe => alone(Command::Wipe, text),
         Word::Dry => dry(text),
+        Word::Certify => certify(text),
     }
 }
 

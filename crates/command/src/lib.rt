@@ -3,6 +3,7 @@
 #![tactic(auto)]
 
 pub mod command;
+pub mod domain_name;
 mod names;
 pub mod numbers;
 pub mod word;

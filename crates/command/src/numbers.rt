@@ -1,20 +1,27 @@
-// Numbers, each after one blank.
-ghost use Rattle.std.specs.Prelude.{◌≡◌, ℕ, suc, Some, None, MatchOption};
-ghost use Rattle.command.specs.Words.{arguments};
+// Words and numbers, each after one blank.
+ghost use Rattle.std.specs.Prelude.{◌≡◌, ℕ, suc, ◌∷◌, Some, None, MatchOption};
+ghost use Rattle.command.specs.Words.{arguments, NoWord};
 ghost use Rattle.command.specs.Numbers.{put, numbers_of};
 
 use words::{len_until, number};
 
-// The number after one blank, and what follows it.
-fn next_number(text: &[u8]) -> Option<(i32, &[u8])>
-    ensures { MatchOption result ((k : ℕ) → numbers_of (suc k) (arguments text.now) ≡ None) (λ p. (k : ℕ) → numbers_of (suc k) (arguments text.now) ≡ put (Some p.0) (numbers_of k (arguments p.1.now))) }
+// The word after one blank, and what follows it.
+pub(crate) fn next_word(text: &[u8]) -> Option<(&[u8], &[u8])>
+    ensures { MatchOption result (NoWord (arguments text.now)) (λ p. arguments text.now ≡ p.0.now ∷ arguments p.1.now) }
 {
     let [b' ', rest @ ..] = text else {
         return None;
     };
     let n = len_until(rest, b' ');
-    let value = number(&rest[0..n])?;
-    Some((value, &rest[n..]))
+    Some((&rest[0..n], &rest[n..]))
+}
+
+// The number after one blank, and what follows it.
+fn next_number(text: &[u8]) -> Option<(i32, &[u8])>
+    ensures { MatchOption result ((k : ℕ) → numbers_of (suc k) (arguments text.now) ≡ None) (λ p. (k : ℕ) → numbers_of (suc k) (arguments text.now) ≡ put (Some p.0) (numbers_of k (arguments p.1.now))) }
+{
+    let (word, rest) = next_word(text)?;
+    Some((number(word)?, rest))
 }
 
 // Exactly N numbers, each after one blank.

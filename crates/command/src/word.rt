@@ -14,10 +14,11 @@ pub enum Word {
     Allow,
     Wipe,
     Dry,
+    Certify,
 }
 
 // Command words are written in small letters exactly.
-const WORDS: [(&[u8], Word); 8] = [
+const WORDS: [(&[u8], Word); 9] = [
     (b"benchgantry", Word::BenchGantry),
     (b"benchbeam", Word::BenchBeam),
     (b"gantry", Word::Gantry),
@@ -26,6 +27,7 @@ const WORDS: [(&[u8], Word); 8] = [
     (b"allow", Word::Allow),
     (b"wipe", Word::Wipe),
     (b"dry", Word::Dry),
+    (b"certify", Word::Certify),
 ];
 
 pub(crate) fn word_of(text: &[u8]) -> Option<Word>
