@@ -1,9 +1,11 @@
 // What a command is answered, and its text.
 ghost use Rattle.std.specs.Prelude.{◌≡◌, Some};
-ghost use Rattle.desk.specs.declared.answer.Refusal.TheVariants.{Travel, Line, Allow, Dry};
-ghost use Rattle.desk.specs.Answers.{refusal_number, refusal_place, said, said_text};
+ghost use Rattle.desk.specs.declared.answer.Refusal.TheVariants.{Travel, Line, Allow, Dry, Certify};
+ghost use Rattle.desk.specs.Answers.{refusal_number, refusal_place, refusal_failure, why, said, said_text};
 
-use model::ending::{Cause, Ending, Failure};
+use crate::text::{FailureText, HullText};
+use certify::refusal::{Certificate, CertifyRefusal};
+use model::ending::{Ending, Failure};
 use program::refusal::LineRefusal;
 use session::refusal::{AllowRefusal, DryRefusal};
 use std::fmt;
@@ -16,6 +18,7 @@ pub enum Refusal {
     Line(LineRefusal),
     Allow(AllowRefusal),
     Dry(DryRefusal),
+    Certify(CertifyRefusal),
 }
 
 impl From<TravelRefusal> for Refusal {
@@ -50,6 +53,14 @@ impl From<DryRefusal> for Refusal {
     }
 }
 
+impl From<CertifyRefusal> for Refusal {
+    ghost from_gives = { λ refusal result. result ≡ Certify refusal };
+
+    fn from(refusal: CertifyRefusal) -> Refusal {
+        Refusal::Certify(refusal)
+    }
+}
+
 impl Refusal {
     // Not a From: `u32::from` would not say which number.
     fn number(self) -> u32
@@ -60,6 +71,7 @@ impl Refusal {
             Refusal::Line(e) => e.number(),
             Refusal::Allow(e) => e.number(),
             Refusal::Dry(e) => e.number(),
+            Refusal::Certify(e) => e.number(),
         }
     }
 
@@ -71,6 +83,31 @@ impl Refusal {
             _ => None,
         }
     }
+
+    // The line that is not certified.
+    fn failure(self) -> Option<Failure>
+        ensures { result ≡ refusal_failure self }
+    {
+        match self {
+            Refusal::Certify(CertifyRefusal::Uncertified(failure)) => Some(failure),
+            _ => None,
+        }
+    }
+}
+
+impl fmt::Display for Refusal {
+    ghost output = { λ e. Some (said_text (why e)) };
+
+    fn fmt<W: fmt::Write>(&self, f: &mut fmt::Formatter<W>) -> fmt::Result {
+        let number = self.number();
+        if let Some(failure) = self.failure() {
+            return write!(f, "refused {number} {}", FailureText(failure));
+        }
+        match self.place() {
+            None => write!(f, "refused {number}"),
+            Some(place) => write!(f, "refused {number} {place}"),
+        }
+    }
 }
 
 // One type for all that is printed, since a Result is not.
@@ -80,6 +117,7 @@ pub enum Answer {
     Refused(Refusal),
     // what a dry run comes to
     Came(Ending),
+    Certified(Certificate),
     // no command stands on this line of the script
     Bad(usize),
 }
@@ -90,19 +128,23 @@ impl fmt::Display for Answer {
     fn fmt<W: fmt::Write>(&self, f: &mut fmt::Formatter<W>) -> fmt::Result {
         match *self {
             Answer::Done => write!(f, "ok"),
-            Answer::Refused(e) => {
-                let number = e.number();
-                match e.place() {
-                    None => write!(f, "refused {number}"),
-                    Some(place) => write!(f, "refused {number} {place}"),
-                }
-            }
+            Answer::Refused(refusal) => write!(f, "{refusal}"),
             Answer::Came(Ending::Ended) => write!(f, "ended"),
             Answer::Came(Ending::Running) => write!(f, "running"),
-            Answer::Came(Ending::Stopped(Failure { line, cause })) => match cause {
-                Cause::Arithmetic => write!(f, "stopped {line} arithmetic"),
-                Cause::Travel(side) => write!(f, "stopped {line} travel {side}"),
-            },
+            Answer::Came(Ending::Stopped(failure)) => {
+                write!(f, "stopped {}", FailureText(failure))
+            }
+            Answer::Certified(certificate) => {
+                let [x, y, z, u] = certificate.hulls;
+                write!(
+                    f,
+                    "certified {} {} {} {}",
+                    HullText(x),
+                    HullText(y),
+                    HullText(z),
+                    HullText(u),
+                )
+            }
             Answer::Bad(line) => write!(f, "bad command {line}"),
         }
     }

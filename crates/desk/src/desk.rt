@@ -1,15 +1,23 @@
 // One command of a script after another, each on the session that stands.
-ghost use Rattle.std.specs.Prelude.{◌≡◌, Ok};
+ghost use Rattle.std.specs.Prelude.{◌≡◌, length, min, Ok};
 ghost use Rattle.command.specs.Commands.{meant, command_of};
-ghost use Rattle.session.specs.Memory.{memory};
+ghost use Rattle.session.specs.Memory.{memory, after_certify};
+ghost use Rattle.certify.specs.Certifies.{TheVerdict};
 ghost use Rattle.desk.specs.Answers.{said, said_or_why};
 ghost use Rattle.travel.specs.Benches.{bench_gantry};
-ghost use Rattle.desk.specs.Serving.{Calls, OnGantry, OnBeam, Names, Changes, Serves};
+ghost use Rattle.program.specs.Refusals.{max_blocks};
+ghost use Rattle.desk.specs.Serving.{VerdictIn, Calls, OnGantry, OnBeam, Names, Changes, Serves};
 
 use crate::answer::{Answer, Refusal};
+use certify::refusal::{Certificate, CertifyRefusal};
 use command::command::{Command, read_command};
+use command::domain_name::DomainName;
+use domain::domain::Domain;
+use domain::product::Product;
 use either::Either;
 use model::axes::Ends;
+use pointwise::kinds::{Congruences, Intervals};
+use program::table::MAX_BLOCKS;
 use session::session::Session;
 use travel::beam::Beam;
 use travel::bench::{BENCH_BEAM, BENCH_GANTRY, BENCH_GAP};
@@ -19,6 +27,52 @@ use travel::travel::Travel;
 
 // The tables that a script may name.
 pub type Table = Either<Gantry, Beam>;
+
+// Of the states at hand so many are lent. The array is made where its type is known, since a state of type D might be too large for it.
+fn certify_with<D: Domain, T: Travel>(
+    session: &mut Session<T>,
+    store: &mut [D],
+    states: u32,
+) -> Result<Certificate, CertifyRefusal>
+    ensures verdict { TheVerdict D.lattice (memory session.old).program (T.sides session.old.travel) (T.origin session.old.travel) (memory session.old).allowed (min states (length store.old)) result }
+    ensures does { memory session.new ≡ after_certify (memory session.old) result }
+    ensures travel { session.new.travel ≡ session.old.travel }
+{
+    let lent = store.len().min(states as usize);
+    session.certify(&mut store[..lent])
+}
+
+// At most sixteen states are lent, for no program has more blocks.
+fn certify_in<T: Travel>(
+    session: &mut Session<T>,
+    domain: DomainName,
+    states: u32,
+) -> Result<Certificate, CertifyRefusal>
+    ensures verdict { VerdictIn domain (memory session.old).program (T.sides session.old.travel) (T.origin session.old.travel) (memory session.old).allowed (min states max_blocks) result }
+    ensures does { memory session.new ≡ after_certify (memory session.old) result }
+    ensures travel { session.new.travel ≡ session.old.travel }
+{
+    match domain {
+        DomainName::Intervals => {
+            certify_with(session, &mut [Intervals::none(); MAX_BLOCKS], states)
+        }
+        DomainName::Congruences => {
+            certify_with(session, &mut [Congruences::none(); MAX_BLOCKS], states)
+        }
+        DomainName::IntervalsAndCongruences => {
+            let none = Product::<Intervals, Congruences>::none();
+            certify_with(session, &mut [none; MAX_BLOCKS], states)
+        }
+        DomainName::CongruencesAndIntervals => {
+            let none = Product::<Congruences, Intervals>::none();
+            certify_with(session, &mut [none; MAX_BLOCKS], states)
+        }
+        DomainName::TwiceIntervals => {
+            let none = Product::<Intervals, Intervals>::none();
+            certify_with(session, &mut [none; MAX_BLOCKS], states)
+        }
+    }
+}
 
 // A call of a session; a command that names a table is none.
 fn call<T: Travel>(session: &mut Session<T>, n: usize, command: Command) -> Result<Answer, Refusal>
@@ -33,6 +87,9 @@ fn call<T: Travel>(session: &mut Session<T>, n: usize, command: Command) -> Resu
         Command::Wipe => session.wipe(),
         Command::Dry { values, steps } => {
             return Ok(Answer::Came(session.dry(values, steps)?));
+        }
+        Command::Certify { domain, states } => {
+            return Ok(Answer::Certified(certify_in(session, domain, states)?));
         }
         _ => return Ok(Answer::Bad(n)),
     }

@@ -1,0 +1,38 @@
+-- The texts of what answers carry.
+use Rattle.std.specs.Prelude.{ℕ, List, ◌++◌, Some, None, codes, decimal, Option, slice_index_or}
+use Rattle.std.specs.Fmt.{signed_decimal}
+use Rattle.model.specs.declared.ending.Cause.{Cause}
+use Rattle.model.specs.declared.ending.Cause.TheVariants.{Arithmetic, Travel}
+use Rattle.model.specs.declared.ending.Ending.{Ending}
+use Rattle.model.specs.declared.ending.Ending.TheVariants.{Ended, Running, Stopped}
+use Rattle.model.specs.declared.ending.Failure.{Failure}
+use Rattle.model.specs.declared.range.Range.{Range}
+
+abbrev pub cause_text : Cause → List ℕ
+cause_text Arithmetic = codes "arithmetic"
+cause_text (Travel s) = codes "travel " ++ decimal s
+
+-- a line and why it fails
+abbrev pub failure_text : Failure → List ℕ
+failure_text f = decimal f.line ++ (codes " " ++ cause_text f.cause)
+
+abbrev pub ending_text : Ending → List ℕ
+ending_text Ended = codes "ended"
+ending_text Running = codes "running"
+ending_text (Stopped f) = codes "stopped " ++ failure_text f
+
+abbrev pub place_text : Option ℕ → List ℕ
+place_text None = codes ""
+place_text (Some p) = codes " " ++ decimal p
+
+-- the least and the greatest number, or that there is none
+abbrev pub hull_text : Option Range → List ℕ
+hull_text None = codes "none"
+hull_text (Some r) = signed_decimal r.lo ++ (codes ".." ++ signed_decimal r.hi)
+
+-- the hulls of X, Y, Z and U
+abbrev pub axis_text : List (Option Range) → ℕ → List ℕ
+axis_text hs k = hull_text (slice_index_or hs k None)
+
+abbrev pub hulls_text : List (Option Range) → List ℕ
+hulls_text hs = axis_text hs 0 ++ (codes " " ++ (axis_text hs 1 ++ (codes " " ++ (axis_text hs 2 ++ (codes " " ++ axis_text hs 3)))))
