@@ -28,7 +28,14 @@ use travel::travel::Travel;
 // The tables that a script may name.
 pub type Table = Either<Gantry, Beam>;
 
-// Of the states at hand so many are lent. The array is made where its type is known, since a state of type D might be too large for it.
+type Both = Product<Intervals, Congruences>;
+
+type Turned = Product<Congruences, Intervals>;
+
+type Twice = Product<Intervals, Intervals>;
+
+// Of the states at hand so many are lent. Tried with the array in here, cut by a range and by `split_at_mut`: of sixteen states of a
+// type parameter it is not known that they are small enough for memory.
 fn certify_with<D: Domain, T: Travel>(
     session: &mut Session<T>,
     store: &mut [D],
@@ -60,16 +67,13 @@ fn certify_in<T: Travel>(
             certify_with(session, &mut [Congruences::none(); MAX_BLOCKS], states)
         }
         DomainName::IntervalsAndCongruences => {
-            let none = Product::<Intervals, Congruences>::none();
-            certify_with(session, &mut [none; MAX_BLOCKS], states)
+            certify_with(session, &mut [Both::none(); MAX_BLOCKS], states)
         }
         DomainName::CongruencesAndIntervals => {
-            let none = Product::<Congruences, Intervals>::none();
-            certify_with(session, &mut [none; MAX_BLOCKS], states)
+            certify_with(session, &mut [Turned::none(); MAX_BLOCKS], states)
         }
         DomainName::TwiceIntervals => {
-            let none = Product::<Intervals, Intervals>::none();
-            certify_with(session, &mut [none; MAX_BLOCKS], states)
+            certify_with(session, &mut [Twice::none(); MAX_BLOCKS], states)
         }
     }
 }
