@@ -10,11 +10,14 @@ fn check_report(rt: &(impl Abort + AllocGlobal), input: &[u8], text: &str) -> Re
     Ok(())
 }
 
+// What is printed where no move can be reached.
+const NO_MOVE: &str = "certified\nX none\nY none\nZ none\nU none";
+
 #[test]
 fn lines_and_blocks(rt: HostRuntime) -> Result<(), Fail> {
-    check_report(&rt, b"", "read 0 lines, 0 blocks")?;
-    check_report(&rt, b"\n", "read 1 lines, 0 blocks")?;
-    check_report(&rt, b"O1IF[1EQ1]\nO1ENDIF", "read 2 lines, 1 blocks")?;
+    check_report(&rt, b"", NO_MOVE)?;
+    check_report(&rt, b"\n", NO_MOVE)?;
+    check_report(&rt, b"O1IF[1EQ1]\nO1ENDIF", NO_MOVE)?;
     check_report(&rt, b"O1IF[1EQ1]", "refused 0 31 0")?;
     check_report(&rt, b"O1ENDIF", "refused 1 22 0")?;
     check_report(&rt, b"O1IF[1EQ1]\nO1ENDWHILE\n", "refused 2 22 0")?;
@@ -24,7 +27,11 @@ fn lines_and_blocks(rt: HostRuntime) -> Result<(), Fail> {
 
 #[test]
 fn range_lines(rt: HostRuntime) -> Result<(), Fail> {
-    check_report(&rt, b"?1 -5 5\n?6 0 0\nG0X1", "read 1 lines, 0 blocks")?;
+    check_report(
+        &rt,
+        b"?1 -5 5\n?6 0 0\nG0X1",
+        "certified\nX 1 1\nY 0 0\nZ 0 0\nU 0 0",
+    )?;
     check_report(&rt, b"?0 1 2", "refused 0 26 0")?;
     check_report(&rt, b"?7 2 1", "refused 0 26 0")?;
     check_report(&rt, b"?1 2 1", "refused 0 27 0")?;
@@ -39,4 +46,29 @@ fn where_the_program_begins(rt: HostRuntime) -> Result<(), Fail> {
     check_report(&rt, b"\n?1 1 2", "refused 2 13 0")?;
     check_report(&rt, b" ?1 1 2", "refused 1 13 1")?;
     check_report(&rt, b"?1 1 2\r\n", "refused 0 13 0")
+}
+
+#[test]
+fn verdicts(rt: HostRuntime) -> Result<(), Fail> {
+    check_report(
+        &rt,
+        b"?2 100 200\n#1=0\nO10 WHILE [#1 LT 5]\nG1 X[#1*500] Y#2\n#1=[#1+1]\nO10 ENDWHILE\n",
+        "certified\nX 0 2000\nY 100 200\nZ 0 0\nU 0 0",
+    )?;
+    check_report(
+        &rt,
+        b"#1=0\nO10 WHILE [#1 LE 5001]\nG1 X[#1*500]\n#1=[#1+1]\nO10 ENDWHILE\n",
+        "uncertified 3 travel 0",
+    )?;
+    check_report(&rt, b"?3 -7 5\nG0 Z#3", "uncertified 1 travel 4")?;
+    check_report(
+        &rt,
+        b"?3 -7 5\n?3 -7 0\nG0 Z#3",
+        "certified\nX 0 0\nY 0 0\nZ -7 0\nU 0 0",
+    )?;
+    check_report(
+        &rt,
+        b"?1 0 10000000\nG0 X[#1+1]",
+        "uncertified 1 arithmetic",
+    )
 }

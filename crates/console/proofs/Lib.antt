@@ -1,5 +1,6 @@
 pub mod Cuts
 pub mod RangeGrammar
 pub mod LineFeeds
-pub mod Reports
 pub mod PairCut
+pub mod Readings
+pub mod Reports

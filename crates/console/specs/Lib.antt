@@ -1,4 +1,6 @@
 pub mod Lines
 pub mod RangeLines
 pub mod Report
+pub mod Readings
+pub mod Verdicts
 pub mod Law

@@ -1,16 +1,12 @@
 // The report on an input, and its text.
 ghost use Rattle.std.specs.Prelude.{◌≡◌, Some};
-ghost use Rattle.console.specs.Report.{said, outcome_text};
+ghost use Rattle.console.specs.Report.{said, hull_text, outcome_text};
 
 use crate::refusal::Refusal;
+use certify::refusal::Certificate;
+use model::ending::{Cause, Failure};
+use model::range::Range;
 use std::fmt;
-
-// What was read.
-#[derive(Clone, Copy)]
-pub struct Summary {
-    pub lines: usize,
-    pub blocks: usize,
-}
 
 // The number of the line that is refused, or 0 where none of the program is, as it is printed, and why.
 #[derive(Clone, Copy)]
@@ -27,17 +23,43 @@ impl From<Refusal> for Rejection {
     }
 }
 
-// A type of its own, since a Result is not printed.
 #[derive(Clone, Copy)]
-pub struct Report(pub Result<Summary, Rejection>);
+pub enum Report {
+    Certified(Certificate),
+    // the lowest line that fails, and why
+    Uncertified(Failure),
+    Refused(Rejection),
+}
 
-impl fmt::Display for Report {
-    ghost output = { λ r. Some (outcome_text (said r.0)) };
+// Where moves can take an axis, if anywhere. A type of its own, since an Option is not printed.
+#[derive(Clone, Copy)]
+struct Hull(Option<Range>);
+
+impl fmt::Display for Hull {
+    ghost output = { λ hull. Some (hull_text hull.0) };
 
     fn fmt<W: fmt::Write>(&self, f: &mut fmt::Formatter<W>) -> fmt::Result {
         match self.0 {
-            Ok(Summary { lines, blocks }) => write!(f, "read {lines} lines, {blocks} blocks"),
-            Err(Rejection { line, refusal }) => {
+            None => write!(f, "none"),
+            Some(Range { lo, hi }) => write!(f, "{lo} {hi}"),
+        }
+    }
+}
+
+impl fmt::Display for Report {
+    ghost output = { λ report. Some (outcome_text (said report)) };
+
+    fn fmt<W: fmt::Write>(&self, f: &mut fmt::Formatter<W>) -> fmt::Result {
+        match *self {
+            Report::Certified(certificate) => {
+                let [x, y, z, u] = certificate.hulls.map(Hull);
+                write!(f, "certified\nX {x}\nY {y}\nZ {z}\nU {u}")
+            }
+            Report::Uncertified(Failure { line, cause }) => match cause {
+                Cause::Arithmetic => write!(f, "uncertified {line} arithmetic"),
+                Cause::Travel(side) => write!(f, "uncertified {line} travel {side}"),
+            },
+            Report::Refused(Rejection { line, refusal }) => {
                 let number = refusal.number();
                 let place = refusal.place();
                 write!(f, "refused {line} {number} {place}")
