@@ -1,13 +1,12 @@
 -- What is reported is the report by the rules, and the only one.
-use Rattle.std.proofs.Common.{◌≡◌, ℕ, List, [], ◌∷◌, Ok, Err, sym, refl, ap, ◌∙◌, subst, subst₂, arith}
+use Rattle.std.proofs.Common.{◌≡◌, ℕ, List, Ok, Err, sym, refl, ap, ◌∙◌, subst, subst₂, arith}
 use Rattle.model.specs.Axes.{Position}
 use Rattle.model.specs.declared.axes.Ends.{Ends}
 use Rattle.model.specs.declared.line.Line.{Line}
-use Rattle.model.specs.declared.line.Axis.TheVariants.{X, Y, Z, U}
 use Rattle.model.specs.declared.range.Range.{Range}
 use Rattle.model.specs.declared.side.Side.{Side}
 use Rattle.travel.specs.Benches.{bench_gantry}
-use Rattle.travel.specs.Gantries.{at_most, at_least, gantry_sides}
+use Rattle.travel.specs.Gantries.{gantry_sides}
 use Rattle.travel.specs.declared.gantry.Gantry.{Gantry}
 use Rattle.program.specs.Refusals.{max_blocks}
 use Rattle.sweep.specs.Sound.{Safe}
@@ -23,12 +22,7 @@ use Rattle.console.proofs.Readings.{is_reading, one_reading}
 -- ---- gantries with the same ends
 module _ (g h : Gantry) (e : g.ends ≡ h.ends) where
   same_sides : gantry_sides g ≡ gantry_sides h
-  same_sides =
-      ap (λ (ends : Ends).
-      at_most X ends.upper.x ∷ at_least X ends.lower.x
-      ∷ at_most Y ends.upper.y ∷ at_least Y ends.lower.y
-      ∷ at_most Z ends.upper.z ∷ at_least Z ends.lower.z
-      ∷ at_most U ends.upper.u ∷ at_least U ends.lower.u ∷ []) e
+  same_sides = cc
 
   pub reported_too : (r : Reading) (o : Outcome) → Reported g r o → Reported h r o
   reported_too (whole ts xs) (judged v) k = subst₂ (λ (sides : List Side) (home : Position). TheVerdict lattice xs sides home ts max_blocks (answered v)) same_sides (ap (λ (ends : Ends). ends.home) e) k

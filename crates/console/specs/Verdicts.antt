@@ -20,14 +20,14 @@ use Rattle.certify.specs.Certifies.{answered, TheVerdict}
 use Rattle.console.specs.Report.{Outcome, judged, refused_at}
 use Rattle.console.specs.Readings.{Reading, whole, stopped_at}
 
--- for each register an interval, and beside it a congruence class
+-- for each register an interval, and for each a congruence class
 abbrev pub State : Type 0
 State = Product (Pointwise Interval) (Pointwise Congruence)
 
 abbrev pub lattice : Lattice State
 lattice = pair (pointwise intervals registers) (pointwise congruences registers) registers
 
--- it is so on each gantry that is made with the ends of the examples
+-- it is so on each gantry that is made with the ends of the examples; there is one, for travel::bench makes it
 abbrev pub OnBench : (Gantry → Type 0) → Type 0
 OnBench P = (g : Gantry) → GantryMade bench_gantry (Ok g) → P g
 
