@@ -1,11 +1,15 @@
 -- What a step of the code is, in the words of the plain run.
-use Rattle.std.specs.Prelude.{◌≡◌, ℕ, ◌≤◌, List, length, Some, None, Option}
+use Rattle.std.specs.Prelude.{◌≡◌, ℕ, ◌≤◌, List, length, replicate, pos, Some, None, Option}
 use Rattle.model.specs.declared.line.Line.{Line}
-use Rattle.model.specs.Environments.{Env, position}
+use Rattle.model.specs.Environments.{Env, position, registers}
 use Rattle.model.specs.Runs.{goes, commands, faults, Steps}
 use Rattle.runner.specs.declared.run.Stepped.{Stepped}
 use Rattle.runner.specs.declared.run.Stepped.TheVariants.{WentOn, Commanded, Ended, Fault}
 use Rattle.runner.specs.declared.run.Run.{Run}
+
+-- where no run goes
+abbrev pub no_run : Run
+no_run = record { at = None; registers = replicate registers (pos 0) }
 
 abbrev pub run_at : ℕ → Env → Run
 run_at n e = record { at = Some n; registers = e }

@@ -8,7 +8,7 @@ ghost use Rattle.model.specs.Programs.{Closed};
 ghost use Rattle.model.specs.Values.{holds};
 ghost use Rattle.program.specs.Held.{held};
 ghost use Rattle.runner.specs.Drying.{start, number, is_past};
-ghost use Rattle.runner.specs.Plain.{run_at, PlainStep};
+ghost use Rattle.runner.specs.Plain.{no_run, run_at, PlainStep};
 ghost use Rattle.runner.specs.Steps.{worked, set_if, line_at, line_under, behind, first, went, gone, commanded, step_of};
 
 use crate::value::{meets, value};
@@ -20,8 +20,8 @@ use program::table::Program;
 
 #[derive(Clone, Copy)]
 pub struct Run {
-    // from 0; none where there is no run
-    at: Option<usize>,
+    // from 0; none where no run goes
+    pub at: Option<usize>,
     registers: [i32; REGISTERS],
 }
 
@@ -68,6 +68,16 @@ fn line_at(program: &Program, n: usize) -> Option<Line>
 }
 
 impl Run {
+    // Where no run goes.
+    pub fn none() -> Run
+        ensures { result ≡ no_run }
+    {
+        Run {
+            at: None,
+            registers: [0; REGISTERS],
+        }
+    }
+
     // A run at the first line, with the axes at home.
     pub fn begin(home: Position, values: [i32; PARAMETERS]) -> Run
         ensures { result ≡ run_at 0 (start home values) }

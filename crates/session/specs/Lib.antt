@@ -1,2 +1,5 @@
 pub mod Answers
+pub mod Stepping
+pub mod Standing
+pub mod Promises
 pub mod Memory

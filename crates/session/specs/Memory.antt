@@ -1,55 +1,58 @@
 -- What a session remembers, and what the calls make of it.
-use Rattle.std.specs.Prelude.{ℕ, Bool, true, false, List, [], Some, None, Ok, Err, Option, option_map}
+use Rattle.std.specs.Prelude.{ℕ, Bool, true, false, List, [], ℤ, Some, None, Ok, Err, Option, option_map}
 use Rattle.model.specs.declared.line.Line.{Line}
 use Rattle.model.specs.declared.range.Range.{Range}
+use Rattle.model.specs.Axes.{Position}
 use Rattle.program.specs.Held.{held}
 use Rattle.program.specs.Entry.{LineAnswer, taken, turned_down, line_answer, lines_after}
 use Rattle.certify.specs.Certifies.{Answer}
 use Rattle.certify.specs.declared.refusal.CertifyRefusal.TheVariants.{Open, Store, Uncertified}
+use Rattle.runner.specs.declared.run.Run.{Run}
+use Rattle.runner.specs.Drying.{start}
+use Rattle.runner.specs.Plain.{no_run, run_at}
+use Rattle.runner.specs.Steps.{step_of}
 use Rattle.session.specs.declared.session.Session.{Session}
-use Rattle.session.specs.Answers.{no_ranges, allow_answer, ranges_after}
+use Rattle.session.specs.Promises.{Hulls}
+use Rattle.session.specs.Answers.{StartAnswer, begun, not_begun, no_ranges, allow_answer, ranges_after, start_answer}
 
--- the hull of what moves command on each axis, if any
-abbrev pub Hulls : Type 0
-Hulls = List (Option Range)
-
--- the lines of the program, the allowed range of each parameter, and the certificate that stands, if one does
+-- the lines of the program, the allowed range of each parameter, the certificate that stands, if one does, and the run
 pub record Memory : Type 0 where
   pub program : List Line
   pub allowed : List Range
   pub certificate : Option Hulls
+  pub run : Run
 
 abbrev pub blank : Memory
-blank = record { program = []; allowed = no_ranges; certificate = None }
+blank = record { program = []; allowed = no_ranges; certificate = None; run = no_run }
 
-abbrev pub memory : {T : Type 0} → Session T → Memory
-memory s = record { program = held s.program; allowed = s.ranges.each; certificate = option_map (λ c. c.hulls) s.certificate }
+abbrev pub memory : {T : Type 0} {t : _} → Session T t → Memory
+memory s = record { program = held s.program; allowed = s.ranges.each; certificate = option_map (λ c. c.hulls) s.certificate; run = s.run }
 
--- a line that is taken ends the certificate, a refused one does not
-abbrev pub unless_taken : LineAnswer → Option Hulls → Option Hulls
-unless_taken taken h = None
-unless_taken (turned_down k p) h = h
+-- a line that is taken ends certificate and run, a refused one does not
+abbrev pub unless_taken : {A : Type 0} → LineAnswer → A → A → A
+unless_taken taken gone x = gone
+unless_taken (turned_down k p) gone x = x
 
 abbrev pub after_line : Memory → List ℕ → Memory
-after_line m s = record { program = lines_after m.program s; allowed = m.allowed; certificate = unless_taken (line_answer m.program s) m.certificate }
+after_line m s = record {
+  program = lines_after m.program s;
+  allowed = m.allowed;
+  certificate = unless_taken (line_answer m.program s) None m.certificate;
+  run = unless_taken (line_answer m.program s) no_run m.run;
+}
 
 -- so does a range that is allowed
-abbrev pub unless_allowed : Option ℕ → Option Hulls → Option Hulls
-unless_allowed None h = None
-unless_allowed (Some k) h = h
+abbrev pub unless_allowed : {A : Type 0} → Option ℕ → A → A → A
+unless_allowed None gone x = gone
+unless_allowed (Some k) gone x = x
 
 abbrev pub after_allow : Memory → ℕ → Range → Memory
-after_allow m n r = record { program = m.program; allowed = ranges_after m.allowed n r; certificate = unless_allowed (allow_answer n r) m.certificate }
-
--- a certify that judges ends the certificate, and a new one may stand
-abbrev pub certificate_after : Answer → Option Hulls → Option Hulls
-certificate_after (Ok c) h = Some c.hulls
-certificate_after (Err Open) h = h
-certificate_after (Err Store) h = h
-certificate_after (Err (Uncertified f)) h = None
-
-abbrev pub after_certify : Memory → Answer → Memory
-after_certify m r = record { program = m.program; allowed = m.allowed; certificate = certificate_after r m.certificate }
+after_allow m n r = record {
+  program = m.program;
+  allowed = ranges_after m.allowed n r;
+  certificate = unless_allowed (allow_answer n r) None m.certificate;
+  run = unless_allowed (allow_answer n r) no_run m.run;
+}
 
 -- it looked at the lines
 abbrev pub judged : Answer → Bool
@@ -57,3 +60,26 @@ judged (Ok c) = true
 judged (Err Open) = false
 judged (Err Store) = false
 judged (Err (Uncertified f)) = true
+
+-- a certify that judges ends certificate and run, and a new certificate may stand
+abbrev pub after_certify : Memory → Answer → Memory
+after_certify m (Ok c) = record { program = m.program; allowed = m.allowed; certificate = Some c.hulls; run = no_run }
+after_certify m (Err Open) = m
+after_certify m (Err Store) = m
+after_certify m (Err (Uncertified f)) = record { program = m.program; allowed = m.allowed; certificate = None; run = no_run }
+
+-- a start that is accepted begins a run at home, in place of one that goes
+abbrev pub unless_begun : {A : Type 0} → StartAnswer → A → A → A
+unless_begun begun new x = new
+unless_begun (not_begun k p) new x = x
+
+abbrev pub after_start : Position → Memory → List ℤ → Memory
+after_start home m vs = record {
+  program = m.program;
+  allowed = m.allowed;
+  certificate = m.certificate;
+  run = unless_begun (start_answer m.certificate m.allowed vs) (run_at 0 (start home vs)) m.run;
+}
+
+abbrev pub after_step : Memory → Memory
+after_step m = record { program = m.program; allowed = m.allowed; certificate = m.certificate; run = (step_of m.program m.run).run }

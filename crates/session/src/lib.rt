@@ -2,6 +2,7 @@
 
 #![tactic(auto)]
 
+pub mod progress;
 pub mod ranges;
 pub mod refusal;
 pub mod session;

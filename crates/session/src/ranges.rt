@@ -1,7 +1,8 @@
 // The allowed range of each parameter.
-ghost use Rattle.std.specs.Prelude.{◌≡◌, ◌≤◌, length, OnOk};
+ghost use Rattle.std.specs.Prelude.{◌≡◌, ◌≤◌, true, length, OnOk};
+ghost use Rattle.std.specs.List.{list_all};
 ghost use Rattle.model.specs.Environments.{parameters};
-ghost use Rattle.session.specs.Answers.{allow_said, allow_answer};
+ghost use Rattle.session.specs.Answers.{allow_said, allow_answer, is_proper};
 
 use crate::refusal::AllowRefusal;
 use model::expression::LIMIT;
@@ -14,10 +15,10 @@ mod table;
 pub struct Ranges {
     each: [Range; PARAMETERS],
     ghost whole: { length each ≡ parameters },
+    ghost proper: { list_all is_proper each ≡ true },
 }
 
 // Whether the parameter, from 1, may be allowed the range. It is given by its number, since numbers of no parameter are refused here.
-// No struct goes round the two: each caller would make it to hand it over at once.
 pub fn check_range(parameter: u32, range: Range) -> Result<(), AllowRefusal>
     ensures says { allow_said result ≡ allow_answer parameter range }
     ensures known { OnOk result ((1 ≤ parameter) × (parameter ≤ parameters)) }

@@ -1,6 +1,6 @@
 // The table of allowed ranges.
 ghost use Rattle.std.specs.Prelude.{◌≡◌, false, is_ok};
-ghost use Rattle.session.specs.Answers.{no_ranges, allow_said, allow_answer, ranges_after};
+ghost use Rattle.session.specs.Answers.{no_ranges, allow_said, allow_answer, ranges_after, outside_from};
 
 use crate::ranges::{Ranges, check_range};
 use crate::refusal::AllowRefusal;
@@ -32,5 +32,16 @@ impl Ranges {
         check_range(parameter, range)?;
         self.each[parameter as usize - 1] = range;
         Ok(())
+    }
+
+    // The lowest parameter, from 1, whose value lies outside its range.
+    pub(crate) fn lowest_outside(&self, values: &[i32; PARAMETERS]) -> Option<usize>
+        ensures { result ≡ outside_from 1 self.now.each values.now }
+    {
+        self.each
+            .iter()
+            .zip(values)
+            .position(|(range, value)| !range.contains(*value as i64))
+            .map(|before| before + 1)
     }
 }
