@@ -1,0 +1,11 @@
+pub mod LinesAfter
+pub mod Onwards
+pub mod Remembered
+pub mod Lawful
+pub mod Consequences
+pub mod Played
+pub mod Recorded
+pub mod Loans
+pub mod Starting
+pub mod Stepping
+pub mod Exact

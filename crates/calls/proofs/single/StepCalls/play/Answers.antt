@@ -1,0 +1,10 @@
+use Rattle.std.proofs.Common.{ap}
+use Rattle.session.specs.Memory.{Memory, memory}
+use Rattle.calls.proofs.Stepping.{step_by}
+use Rattle.calls.proofs.single.StepCalls.play.Goals as goal
+
+pub returns-clause-kept : goal.returns-clause-kept
+returns-clause-kept g c =
+    let done = c.step.ensures in
+    let region = g.T.Travel.region c.args.session.now.travel in
+    (step_by region (memory c.args.session.now) (memory c.step.new.self).run c.step.result done.says done.plain done.inside (ap (λ (m : Memory). m.run) done.does), tt)

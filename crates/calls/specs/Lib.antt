@@ -1,0 +1,5 @@
+pub mod Said
+pub mod Law
+pub mod Playing
+pub mod Loans
+pub mod Answers

@@ -1,0 +1,9 @@
+// Lists of calls on a session, and the law that every list keeps.
+
+#![tactic(auto)]
+
+pub mod calls;
+pub mod combine;
+pub mod replay;
+pub mod single;
+pub mod tape;

@@ -1,0 +1,32 @@
+// Lists of one kind in lent memory, played one after another.
+ghost use Rattle.std.specs.Prelude.{length, min};
+ghost use Rattle.calls.specs.Answers.{recorded};
+ghost use Rattle.calls.specs.Loans.{SameLoan, EachStays};
+
+use crate::calls::Calls;
+use session::session::Session;
+use travel::travel::Travel;
+
+// The answers are noted beside the lists; lists for whose answers there is no room are not played.
+#[derive(Drop)]
+pub struct Tape<'a, C: Calls> {
+    pub calls: &'a mut [C],
+    pub answers: &'a mut [C::Answers],
+}
+
+impl<'a, C: Calls> Calls for Tape<'a, C>
+where
+    C::Answers: Drop,
+{
+    type Answers = ();
+
+    ghost events = { λ c d _. recorded C.Calls.events c.calls.now d.calls.now d.answers.now };
+
+    ghost stays = { λ c d _. SameLoan c.calls d.calls × SameLoan c.answers d.answers × EachStays C.Calls.stays (min (length c.calls.now) (length c.answers.now)) c.calls.now d.calls.now c.answers.now d.answers.now };
+
+    fn play<T: Travel>(&mut self, session: &mut Session<T>) -> () {
+        for n in 0..self.calls.len().min(self.answers.len()) {
+            self.answers[n] = self.calls[n].play(session);
+        }
+    }
+}

@@ -1,0 +1,4 @@
+pub mod Steps
+pub mod UnderCertificate
+pub mod OneRun
+pub mod Refused

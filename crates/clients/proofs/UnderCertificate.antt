@@ -1,0 +1,29 @@
+-- Steps under a certificate command within its ranges.
+use Rattle.std.proofs.Common.{◌≡◌, ℕ, List, [], ◌∷◌, ◌++◌, length, take, Some, Ok, Err, IfOk, Result, ℤ, refl}
+use Rattle.std.specs.List.{All}
+use Rattle.model.specs.Axes.{Position}
+use Rattle.model.specs.declared.side.Side.{Side}
+use Rattle.certify.specs.Certifies.{Answer as CertifyAnswer}
+use Rattle.session.specs.Answers.{start_said}
+use Rattle.session.specs.Promises.{InHulls}
+use Rattle.session.specs.declared.refusal.StartRefusal.{StartRefusal}
+use Rattle.calls.specs.Law.{AnyDomain, Event, Lawfully, certify, start}
+use Rattle.calls.specs.Said.{by_start, by_verdict}
+use Rattle.calls.specs.Answers.{event, recorded}
+use Rattle.calls.proofs.Consequences.{later, lawful_rest}
+use Rattle.clients.specs.Commands.{CommandsIn}
+use Rattle.clients.proofs.Steps.{Answer, stepped, steps_in}
+
+module _ (region : Position → Type 0) (sides : List Side) (home : Position) {S : Type 0} (d : AnyDomain) (n : ℕ) (k : CertifyAnswer) (vs : List ℤ) (begun : Result (Unit {0}) StartRefusal) (cs ds : List S) (rs : List Answer) (same : length ds ≡ length cs) where
+  abbrev calls : CertifyAnswer → List Event
+  calls j = event (certify d n) (by_verdict j) ∷ (event (start vs) (by_start (start_said begun)) ∷ recorded stepped cs ds rs)
+
+  abbrev Within : CertifyAnswer → Type 0
+  Within j = IfOk j (λ c. All (CommandsIn (λ p. InHulls p c.hulls)) (take (length cs) rs))
+
+  within : (past : List Event) (j : CertifyAnswer) → Lawfully region sides home past (calls j) → Within j
+  within past (Ok c) law = steps_in region sides home (event (certify d n) (by_verdict (Ok c)) ∷ past) vs begun cs ds rs same (λ p. InHulls p c.hulls) (Some c.hulls) refl (λ p h. h.1) law.1
+  within past (Err e) law = tt
+
+  pub steps_certified : (es : List Event) → Lawfully region sides home [] (es ++ calls k) → Within k
+  steps_certified es law = within (later [] es) k (lawful_rest region sides home [] es (calls k) law)

@@ -1,0 +1,34 @@
+// Certify and dry, one after the other.
+ghost use Rattle.std.specs.Prelude.{length};
+ghost use Rattle.calls.specs.Answers.{by_dried};
+ghost use Rattle.calls.specs.Law.{SameAs};
+ghost use Rattle.calls.specs.Said.{by_verdict};
+ghost use Rattle.clients.specs.Exactness.{HasOneRun};
+
+use calls::calls::Calls;
+use calls::combine::Then;
+use calls::replay::replay;
+use calls::single::{Certify, Dry};
+use certify::refusal::{Certificate, CertifyRefusal};
+use model::ending::Ending;
+use number_sets::sets::NumberSet;
+use pointwise::state::Pointwise;
+use session::refusal::DryRefusal;
+use travel::travel::Travel;
+
+// Where a program has one run alone, certify by sets of numbers says what a dry run comes to.
+pub fn certify_and_dry<T: Travel + Drop, C: Calls, V: NumberSet>(
+    travel: T,
+    list: &mut Then<C, Then<Certify<Pointwise<V>>, Dry>>,
+) -> (
+    C::Answers,
+    (
+        Result<Certificate, CertifyRefusal>,
+        Result<Ending, DryRefusal>,
+    ),
+)
+    ensures { (HasOneRun (C.events list.old.first list.new.first result.0) (length list.old.rest.first.store.now) list.old.rest.rest.values list.old.rest.rest.steps → SameAs (by_verdict result.1.0) (by_dried result.1.1)) }
+{
+    let (before, both) = replay(travel, list);
+    (before, both)
+}
