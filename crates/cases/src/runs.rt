@@ -1,19 +1,66 @@
-// What dry runs come to, as the last answer to a script.
-use desk::answer::Answer;
-use desk::desk::{first_table, serve};
-use session::session::Session;
+// What runs come to, as the last answers to a script: here dry runs, and the helper for all.
+use calls::replay::replay;
+use calls::tape::Tape;
+use desk::answer::Reply;
+use desk::desk::{Table, first_table, read_entry};
+use desk::entry::{Answer, Entry};
+use std::alloc::AllocError;
 use std::process::Abort;
 use std::test::*;
 
-fn check_last(rt: &(impl Abort + AllocGlobal), script: &[&[u8]], last: &str) -> Result<(), Fail> {
-    let mut session = Session::new(first_table());
-    let mut answer = Answer::Done;
-    for command in script {
-        answer = serve(&mut session, 0, command);
+mod steps;
+
+// Leaves the entries of a script's last session, and gives its table.
+fn last_session<'a>(
+    script: &[&'a [u8]],
+    entries: &mut Vec<Entry<'a>>,
+) -> Result<Table, AllocError> {
+    let mut table = first_table();
+    for (before, line) in script.iter().enumerate() {
+        let entry = read_entry(before + 1, *line);
+        if let Some(next) = entry.table() {
+            entries.clear();
+            table = next;
+        }
+        entries.push(entry)?;
     }
+    Ok(table)
+}
+
+fn check_shown(rt: &(impl Abort + AllocGlobal), answer: Answer, text: &str) -> Result<(), Fail> {
     let shown = format!(in rt.alloc(); "{answer}")?;
-    assert!(rt; shown.as_str() == last);
+    assert!(rt; shown.as_str() == text);
     Ok(())
+}
+
+// The last answers to a script, all of its last session.
+fn check_answers(
+    rt: &(impl Abort + AllocGlobal),
+    script: &[&[u8]],
+    answers: &[&str],
+) -> Result<(), Fail> {
+    let mut entries = Vec::new(rt.alloc());
+    let table = last_session(script, &mut entries)?;
+    let mut replies = vec![in rt.alloc(); Reply::Done; entries.len()]?;
+    let mut tape = Tape {
+        calls: entries.as_mut_slice(),
+        answers: replies.as_mut_slice(),
+    };
+    replay(table, &mut tape);
+    assert!(rt; answers.len() <= entries.len());
+    let before = entries.len() - answers.len();
+    for ((entry, reply), text) in entries.iter().zip(&replies).skip(before).zip(answers) {
+        let answer = Answer {
+            entry: *entry,
+            reply: *reply,
+        };
+        check_shown(rt, answer, *text)?;
+    }
+    Ok(())
+}
+
+fn check_last(rt: &(impl Abort + AllocGlobal), script: &[&[u8]], last: &str) -> Result<(), Fail> {
+    check_answers(rt, script, &[last])
 }
 
 const ROUNDS: [&[u8]; 4] = [
@@ -135,5 +182,5 @@ fn refusals(rt: HostRuntime) -> Result<(), Fail> {
     check_last(&rt, &[b"beam 0 0 0 0 9 9 9 9 0 0 0 4 5"], "refused 52")?;
     check_last(&rt, &[b"beam 0 0 0 0 9 9 9 9 0 0 0 4 0"], "refused 52")?;
     check_last(&rt, &[b"beam 0 0 0 0 9 9 9 9 0 0 0 4 4"], "ok")?;
-    check_last(&rt, &[b"dry"], "bad command 0")
+    check_last(&rt, &[b"dry"], "bad command 1")
 }

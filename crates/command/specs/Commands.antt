@@ -3,10 +3,12 @@ use Rattle.std.specs.Prelude.{ℕ, ◌+◌, List, [], ◌∷◌, length, take, d
 use Rattle.model.specs.declared.range.Range.{Range}
 use Rattle.model.specs.declared.axes.Ends.{Ends}
 use Rattle.model.specs.Environments.{at, position, parameters}
+use Rattle.command.specs.declared.command.Call.{Call}
 use Rattle.command.specs.declared.command.Command.{Command}
+use Rattle.command.specs.declared.command.NewTable.{NewTable}
 use Rattle.command.specs.declared.domain_name.DomainName.{DomainName}
 use Rattle.command.specs.declared.word.Word.{Word}
-use Rattle.command.specs.declared.word.Word.TheVariants.{BenchGantry, BenchBeam, Gantry, Beam, Line, Allow, Wipe, Dry, Certify}
+use Rattle.command.specs.declared.word.Word.TheVariants.{BenchGantry, BenchBeam, Gantry, Beam, Line, Allow, Wipe, Start, Step, Dry, Certify}
 use Rattle.command.specs.Words.{words_of, word_of, domain_of}
 use Rattle.command.specs.Numbers.{numbers_of}
 
@@ -19,19 +21,29 @@ pub data Meant : Type 0 where
   line : (text : List ℕ) → Meant
   allow : (parameter : ℤ) (range : Range) → Meant
   wipe : Meant
+  start : (values : List ℤ) → Meant
+  step : Meant
   dry : (values : List ℤ) (steps : ℕ) → Meant
   certify : (domain : DomainName) (states : ℕ) → Meant
 
+abbrev pub meant_table : NewTable → Meant
+meant_table NewTable.BenchGantry = bench_gantry
+meant_table NewTable.BenchBeam = bench_beam
+meant_table (NewTable.Gantry ends) = gantry ends
+meant_table (NewTable.Beam ends gap) = beam ends gap
+
+abbrev pub meant_call : Call → Meant
+meant_call (Call.Line text) = line text.now
+meant_call (Call.Allow parameter range) = allow parameter range
+meant_call Call.Wipe = wipe
+meant_call (Call.Certify domain states) = certify domain states
+meant_call (Call.Start values) = start values
+meant_call Call.Step = step
+meant_call (Call.Dry values steps) = dry values steps
+
 abbrev pub meant : Command → Meant
-meant Command.BenchGantry = bench_gantry
-meant Command.BenchBeam = bench_beam
-meant (Command.Gantry ends) = gantry ends
-meant (Command.Beam ends gap) = beam ends gap
-meant (Command.Line text) = line text.now
-meant (Command.Allow parameter range) = allow parameter range
-meant Command.Wipe = wipe
-meant (Command.Dry values steps) = dry values steps
-meant (Command.Certify domain states) = certify domain states
+meant (Command.Table t) = meant_table t
+meant (Command.Call c) = meant_call c
 
 -- lower X Y Z U, upper X Y Z U, home X Y Z U
 abbrev pub ends_of : List ℤ → Ends
@@ -50,6 +62,11 @@ as_beam (Some ns) = Some (beam (ends_of ns) (at ns 12))
 abbrev pub as_allow : Option (List ℤ) → Option Meant
 as_allow None = None
 as_allow (Some ns) = Some (allow (at ns 0) (record { lo = at ns 1; hi = at ns 2 }))
+
+-- six values
+abbrev pub as_start : Option (List ℤ) → Option Meant
+as_start None = None
+as_start (Some ns) = Some (start ns)
 
 -- a count of steps is not negative
 abbrev pub with_steps : List ℤ → ℤ → Option Meant
@@ -90,6 +107,8 @@ chosen Beam ws text = as_beam (numbers_of 13 ws)
 chosen Line ws text = Some (line text)
 chosen Allow ws text = as_allow (numbers_of 3 ws)
 chosen Wipe ws text = alone wipe ws
+chosen Start ws text = as_start (numbers_of parameters ws)
+chosen Step ws text = alone step ws
 chosen Dry ws text = as_dry (numbers_of 7 ws)
 chosen Certify ws text = as_certify ws
 

@@ -2,7 +2,7 @@
 use Rattle.std.specs.Prelude.{ℕ, cond, List, [], ◌∷◌, Some, None, codes, Option, ◌==◌}
 use Rattle.std.specs.Str.{bytes_eq}
 use Rattle.command.specs.declared.word.Word.{Word}
-use Rattle.command.specs.declared.word.Word.TheVariants.{BenchGantry, BenchBeam, Gantry, Beam, Line, Allow, Wipe, Dry, Certify}
+use Rattle.command.specs.declared.word.Word.TheVariants.{BenchGantry, BenchBeam, Gantry, Beam, Line, Allow, Wipe, Start, Step, Dry, Certify}
 use Rattle.command.specs.declared.domain_name.DomainName.{DomainName}
 use Rattle.command.specs.declared.domain_name.DomainName.TheVariants.{Intervals, Congruences, IntervalsAndCongruences, CongruencesAndIntervals, TwiceIntervals}
 
@@ -26,8 +26,10 @@ word_of w =
     (cond (bytes_eq w (codes "line")) (Some Line)
     (cond (bytes_eq w (codes "allow")) (Some Allow)
     (cond (bytes_eq w (codes "wipe")) (Some Wipe)
+    (cond (bytes_eq w (codes "start")) (Some Start)
+    (cond (bytes_eq w (codes "step")) (Some Step)
     (cond (bytes_eq w (codes "dry")) (Some Dry)
-    (cond (bytes_eq w (codes "certify")) (Some Certify) None))))))))
+    (cond (bytes_eq w (codes "certify")) (Some Certify) None))))))))))
 
 -- a product's sides are joined by a star
 abbrev pub domain_of : List ℕ → Option DomainName

@@ -7,14 +7,17 @@
 //     line TEXT            TEXT is all that follows one blank, as it is; `line` alone is the empty text
 //     allow N N N          parameter, low, high
 //     wipe
+//     start N*6            six values
+//     step
 //     dry N*7              six values and a count of steps, which is not negative
 //     certify DOMAIN N     the domain by its name, and how many states are lent, which is not negative
 //
 // Anything else is no command. Command words are written in small letters exactly.
 ghost use Rattle.std.specs.Prelude.{◌≡◌, drop, option_map};
+ghost use Rattle.model.specs.Environments.{parameters};
 ghost use Rattle.command.specs.Words.{arguments};
 ghost use Rattle.command.specs.Numbers.{numbers_of};
-ghost use Rattle.command.specs.Commands.{meant, ends_of, as_gantry, as_beam, as_allow, as_dry, as_certify, alone, chosen, command_of};
+ghost use Rattle.command.specs.Commands.{meant, ends_of, as_gantry, as_beam, as_allow, as_start, as_dry, as_certify, alone, chosen, command_of};
 
 use crate::domain_name::{DomainName, domain_of};
 use crate::numbers::{next_word, numbers};
@@ -24,12 +27,18 @@ use model::range::Range;
 use model::register::PARAMETERS;
 use words::len_until;
 
+// A session on another table.
 #[derive(Clone, Copy)]
-pub enum Command<'a> {
+pub enum NewTable {
     BenchGantry,
     BenchBeam,
     Gantry(Ends),
     Beam(Ends, i32),
+}
+
+// A call of the session, with its arguments as they are.
+#[derive(Clone, Copy)]
+pub enum Call<'a> {
     Line(&'a [u8]),
     // the parameter by its number: the session refuses numbers of none
     Allow {
@@ -37,15 +46,24 @@ pub enum Command<'a> {
         range: Range,
     },
     Wipe,
-    // the arguments of a session's call, as they are
-    Dry {
-        values: [i32; PARAMETERS],
-        steps: u32,
-    },
     Certify {
         domain: DomainName,
         states: u32,
     },
+    Start {
+        values: [i32; PARAMETERS],
+    },
+    Step,
+    Dry {
+        values: [i32; PARAMETERS],
+        steps: u32,
+    },
+}
+
+#[derive(Clone, Copy)]
+pub enum Command<'a> {
+    Table(NewTable),
+    Call(Call<'a>),
 }
 
 // lower X Y Z U, upper X Y Z U, home X Y Z U
@@ -63,7 +81,8 @@ fn ends_of(numbers: [i32; 12]) -> Ends
 fn gantry(text: &[u8]) -> Option<Command>
     ensures { option_map meant result ≡ as_gantry (numbers_of 12 (arguments text.now)) }
 {
-    Some(Command::Gantry(ends_of(numbers::<12>(text)?)))
+    let ends = ends_of(numbers::<12>(text)?);
+    Some(Command::Table(NewTable::Gantry(ends)))
 }
 
 // It differs from the gantry in its count, its variant and the gap: one function would take all three.
@@ -73,27 +92,34 @@ fn beam(text: &[u8]) -> Option<Command>
     // `[ends @ .., gap]` was tried by value and by reference: the proof covers neither.
     let [lx, ly, lz, lu, ux, uy, uz, uu, hx, hy, hz, hu, gap] = numbers::<13>(text)?;
     let ends = ends_of([lx, ly, lz, lu, ux, uy, uz, uu, hx, hy, hz, hu]);
-    Some(Command::Beam(ends, gap))
+    Some(Command::Table(NewTable::Beam(ends, gap)))
 }
 
 fn allow(text: &[u8]) -> Option<Command>
     ensures { option_map meant result ≡ as_allow (numbers_of 3 (arguments text.now)) }
 {
     let [parameter, lo, hi] = numbers::<3>(text)?;
-    Some(Command::Allow {
+    Some(Command::Call(Call::Allow {
         parameter,
         range: Range { lo, hi },
-    })
+    }))
+}
+
+fn start(text: &[u8]) -> Option<Command>
+    ensures { option_map meant result ≡ as_start (numbers_of parameters (arguments text.now)) }
+{
+    let values = numbers::<PARAMETERS>(text)?;
+    Some(Command::Call(Call::Start { values }))
 }
 
 fn dry(text: &[u8]) -> Option<Command>
     ensures { option_map meant result ≡ as_dry (numbers_of 7 (arguments text.now)) }
 {
     let [v1, v2, v3, v4, v5, v6, steps] = numbers::<7>(text)?;
-    Some(Command::Dry {
+    Some(Command::Call(Call::Dry {
         values: [v1, v2, v3, v4, v5, v6],
         steps: u32::try_from(steps).ok()?,
-    })
+    }))
 }
 
 fn certify(text: &[u8]) -> Option<Command>
@@ -102,10 +128,10 @@ fn certify(text: &[u8]) -> Option<Command>
     let (name, rest) = next_word(text)?;
     let domain = domain_of(name)?;
     let [states] = numbers::<1>(rest)?;
-    Some(Command::Certify {
+    Some(Command::Call(Call::Certify {
         domain,
         states: u32::try_from(states).ok()?,
-    })
+    }))
 }
 
 // What follows one blank.
@@ -131,13 +157,15 @@ fn command_by(word: Word, text: &[u8]) -> Option<Command>
     ensures { option_map meant result ≡ chosen word (arguments text.now) (drop 1 text.now) }
 {
     match word {
-        Word::BenchGantry => alone(Command::BenchGantry, text),
-        Word::BenchBeam => alone(Command::BenchBeam, text),
+        Word::BenchGantry => alone(Command::Table(NewTable::BenchGantry), text),
+        Word::BenchBeam => alone(Command::Table(NewTable::BenchBeam), text),
         Word::Gantry => gantry(text),
         Word::Beam => beam(text),
-        Word::Line => Some(Command::Line(line_text(text))),
+        Word::Line => Some(Command::Call(Call::Line(line_text(text)))),
         Word::Allow => allow(text),
-        Word::Wipe => alone(Command::Wipe, text),
+        Word::Wipe => alone(Command::Call(Call::Wipe), text),
+        Word::Start => start(text),
+        Word::Step => alone(Command::Call(Call::Step), text),
         Word::Dry => dry(text),
         Word::Certify => certify(text),
     }

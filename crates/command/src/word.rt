@@ -13,12 +13,14 @@ pub enum Word {
     Line,
     Allow,
     Wipe,
+    Start,
+    Step,
     Dry,
     Certify,
 }
 
 // Command words are written in small letters exactly.
-const WORDS: [(&[u8], Word); 9] = [
+const WORDS: [(&[u8], Word); 11] = [
     (b"benchgantry", Word::BenchGantry),
     (b"benchbeam", Word::BenchBeam),
     (b"gantry", Word::Gantry),
@@ -26,6 +28,8 @@ const WORDS: [(&[u8], Word); 9] = [
     (b"line", Word::Line),
     (b"allow", Word::Allow),
     (b"wipe", Word::Wipe),
+    (b"start", Word::Start),
+    (b"step", Word::Step),
     (b"dry", Word::Dry),
     (b"certify", Word::Certify),
 ];

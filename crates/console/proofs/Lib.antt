@@ -2,5 +2,9 @@ pub mod Cuts
 pub mod RangeGrammar
 pub mod LineFeeds
 pub mod PairCut
+pub mod FewBlocks
+pub mod Answered
+pub mod Reported
+pub mod Judged
 pub mod Readings
 pub mod Reports

@@ -1,5 +1,5 @@
 -- What is read of an input is the reading by the rules, and the only one.
-use Rattle.std.proofs.Common.{◌≡◌, ℕ, ◌+◌, ◌-◌, ◌<◌, ◌≤◌, Bool, true, false, cond, ◌||◌, ltb, ◌⊎◌, List, [], ◌∷◌, ◌++◌, length, ℤ, pos, neg_ℤ, ◌≤ℤ◌, Some, None, Option, sym, refl, ap, ◌∙◌, subst, inl, inr, append-nil, arith}
+use Rattle.std.proofs.Common.{◌≡◌, ℕ, ◌+◌, ◌-◌, ◌<◌, ◌≤◌, Bool, true, false, cond, not, ◌||◌, ltb, ◌⊎◌, List, [], ◌∷◌, ◌++◌, length, ℤ, pos, neg_ℤ, ◌≤ℤ◌, Some, None, Option, sym, refl, ap, ◌∙◌, subst, inl, inr, append-nil, arith}
 use Rattle.std.specs.Prelude.{slice_set}
 use lib.Signed.{lt_z}
 use Rattle.std.proofs.lemmas.Bool.Decides.{nat_tests}
@@ -41,14 +41,14 @@ range_says : (l : List ℕ) (o : Option RangeLine) → range_of l ≡ o → Rang
 range_says l None e = malformed (λ a is. let f = is_read l a is in absurd (let z : ◌≡◌ {A = ℕ} 0 1 = cc in omega arith))
 range_says l (Some a) e = go (ltb a.parameter 1 || ltb 6 a.parameter) refl (lt_z a.range.hi a.range.lo || (lt_z a.range.lo (neg_ℤ (pos limit)) || lt_z (pos limit) a.range.hi)) refl
   where
-    go : (s : Bool) → (ltb a.parameter 1 || ltb 6 a.parameter) ≡ s → (t : Bool) → (lt_z a.range.hi a.range.lo || (lt_z a.range.lo (neg_ℤ (pos limit)) || lt_z (pos limit) a.range.hi)) ≡ t → RangeSays l (cond s (Some 26) (cond t (Some 27) None))
+    go : (s : Bool) → (ltb a.parameter 1 || ltb 6 a.parameter) ≡ s → (t : Bool) → (lt_z a.range.hi a.range.lo || (lt_z a.range.lo (neg_ℤ (pos limit)) || lt_z (pos limit) a.range.hi)) ≡ t → RangeSays l (cond s (Some 26) (cond (not t) None (Some 27)))
     go true f t g = unknown a (is_had l a e) (λ k. true_false f (known_test a.parameter k.0 k.1))
     go false f true g = disordered a (is_had l a e) (test_known a.parameter f) (λ k. true_false g (ordered_test a.range.lo a.range.hi k.0 k.1 k.2))
     go false f false g = (a, (is_had l a e, test_known a.parameter f, test_ordered a.range.lo a.range.hi g))
 
 -- both tests decide the answer
-by_tests : (l : List ℕ) (a : RangeLine) (s t : Bool) → RangeIs l a → (ltb a.parameter 1 || ltb 6 a.parameter) ≡ s → (lt_z a.range.hi a.range.lo || (lt_z a.range.lo (neg_ℤ (pos limit)) || lt_z (pos limit) a.range.hi)) ≡ t → range_answer l ≡ cond s (Some 26) (cond t (Some 27) None)
-by_tests l a s t is f g = ap by_range (is_read l a is) ∙ (λ i. cond (f i) (Some 26) (cond (g i) (Some 27) None))
+by_tests : (l : List ℕ) (a : RangeLine) (s t : Bool) → RangeIs l a → (ltb a.parameter 1 || ltb 6 a.parameter) ≡ s → (lt_z a.range.hi a.range.lo || (lt_z a.range.lo (neg_ℤ (pos limit)) || lt_z (pos limit) a.range.hi)) ≡ t → range_answer l ≡ cond s (Some 26) (cond (not t) None (Some 27))
+by_tests l a s t is f g = ap by_range (is_read l a is) ∙ (λ i. cond (f i) (Some 26) (cond (not (g i)) None (Some 27)))
 
 good_answer : (l : List ℕ) (a : RangeLine) → Good l a → range_answer l ≡ None
 good_answer l a (is, k, o) = by_tests l a false false is (known_test a.parameter k.0 k.1) (ordered_test a.range.lo a.range.hi o.0 o.1 o.2)
@@ -147,7 +147,7 @@ is_reading bs = go (ltb max_input (length bs)) refl
     go true e = too_long (let h : max_input < length bs = grind (arith, nat_tests) in h)
     go false e = skipped_is bs (let h : length bs ≤ max_input = grind (arith, nat_tests) in h) (skip no_ranges (lines_of bs)) (skip_is no_ranges (lines_of bs))
 
-long_reading : (bs : List ℕ) → max_input < length bs → stopped_at 0 46 0 ≡ reading_of bs
+pub long_reading : (bs : List ℕ) → max_input < length bs → stopped_at 0 46 0 ≡ reading_of bs
 long_reading bs h = let t : ltb max_input (length bs) ≡ true = grind (arith, nat_tests) in sym (ap (λ v. cond v (stopped_at 0 46 0) (by_skipped (skip no_ranges (lines_of bs)))) t)
 
 short_reading : (bs : List ℕ) (s : Skipped) → length bs ≤ max_input → skip no_ranges (lines_of bs) ≡ s → by_skipped s ≡ reading_of bs

@@ -1,5 +1,5 @@
 -- What is reported is the report by the rules, and the only one.
-use Rattle.std.proofs.Common.{◌≡◌, ℕ, List, Ok, Err, sym, refl, ap, ◌∙◌, subst, subst₂, arith}
+use Rattle.std.proofs.Common.{◌≡◌, ℕ, ◌≤◌, Bool, List, [], ◌++◌, length, map, Some, is_none, Ok, Err, sym, refl, ap, ◌∙◌, subst, subst₂, arith}
 use Rattle.model.specs.Axes.{Position}
 use Rattle.model.specs.declared.axes.Ends.{Ends}
 use Rattle.model.specs.declared.line.Line.{Line}
@@ -14,10 +14,15 @@ use Rattle.sweep.specs.Sweeps.{Verdict, certified, uncertified}
 use Rattle.certify.specs.Certifies.{Answer, answered, Judged, Certifies, TheVerdict}
 use Rattle.certify.specs.declared.refusal.CertifyRefusal.TheVariants.{Open, Store, Uncertified}
 use Rattle.console.specs.Report.{Outcome, judged, refused_at}
-use Rattle.console.specs.Readings.{Reading, whole, stopped_at, reading_of}
-use Rattle.console.specs.Verdicts.{lattice, Reported, Promises}
+use Rattle.calls.specs.declared.single.Allow.{Allow}
+use Rattle.calls.specs.declared.single.Line.{Line as AskedLine}
+use Rattle.console.specs.Asked.{asked_ranges, program_lines, first_refusal, report_by, Answered}
+use Rattle.console.specs.Lines.{lines_of}
+use Rattle.console.specs.Readings.{max_input, Reading, whole, stopped_at, reading_of}
+use Rattle.console.specs.Verdicts.{lattice, OnBench, Reported, Promises}
 use Rattle.console.specs.Law.{Reads, Reports, refusal, verdict, TheReport}
 use Rattle.console.proofs.Readings.{is_reading, one_reading}
+use Rattle.console.proofs.Reported.{Judgement, answers_reported}
 
 -- ---- gantries with the same ends
 module _ (g h : Gantry) (e : g.ends ≡ h.ends) where
@@ -83,3 +88,27 @@ module _ (bs : List ℕ) where
     the_report (whole ts xs) (judged v) e t = judged_report ts xs v e t
     the_report (whole ts xs) (refused_at l k p) e t = absurd t
     the_report (stopped_at l k p) o e t = subst (TheReport bs) (sym t) (refused_report l k p e)
+
+-- ---- from the answers
+module _ (bs : List ℕ) (short : length bs ≤ max_input) (cs : List Allow) (ss : List (List ℕ)) (malformed : Bool) (o : Outcome) (before : List Allow) (none : before ≡ []) (noted : cs ≡ before ++ asked_ranges (lines_of bs))
+    (first : List AskedLine) (no_line : first ≡ []) (lines : (ps : List (List ℕ)) → program_lines (lines_of bs) ≡ Some ps → ss ≡ map (λ l. l.text.now) first ++ ps) (all : malformed ≡ is_none (program_lines (lines_of bs))) (a : Answered cs malformed ss o) where
+  asked : cs ≡ asked_ranges (lines_of bs)
+  asked = noted ∙ ap (λ xs. xs ++ asked_ranges (lines_of bs)) none
+
+  same : (ps : List (List ℕ)) → program_lines (lines_of bs) ≡ Some ps → ss ≡ ps
+  same ps e = lines ps e ∙ ap (λ xs. map (λ l. l.text.now) xs ++ ps) no_line
+
+  by_answers : Judgement a.gantry (reading_of bs) o
+  by_answers =
+      let r = answers_reported a.gantry bs short cs ss a.allowed a.taken a.verdict asked same a.all_allowed a.all_taken a.replayed in
+      let e : report_by (first_refusal a.allowed) (is_none (program_lines (lines_of bs))) (first_refusal a.taken) a.verdict ≡ o = sym (a.is ∙ ap (λ b. report_by (first_refusal a.allowed) b (first_refusal a.taken) a.verdict) all) in
+      subst (Judgement a.gantry (reading_of bs)) e r
+
+  pub law_answered : TheReport bs o
+  law_answered = the_report bs a.gantry (a.made.1) (reading_of bs) o refl by_answers.reported
+
+  pub is_answered : OnBench (λ g. Reported g (reading_of bs) o)
+  is_answered g made = reported_too a.gantry g (a.made.1 ∙ sym made.1) (reading_of bs) o by_answers.reported
+
+  pub promised_answered : OnBench (λ g. Promises g (reading_of bs) o)
+  promised_answered g made = promises_too a.gantry g (a.made.1 ∙ sym made.1) (reading_of bs) o by_answers.promised

@@ -3,4 +3,5 @@ pub mod RangeLines
 pub mod Report
 pub mod Readings
 pub mod Verdicts
+pub mod Asked
 pub mod Law

@@ -1,19 +1,14 @@
 -- What is read of an input: range lines first, not counted, then the lines of the program, numbered from 1.
-use Rattle.std.specs.Prelude.{◌≡◌, ℕ, ◌+◌, ◌≤◌, Bool, false, cond, List, [], ◌∷◌, length, Some, None, Ok, Err, Option, Result, ◌==◌, nat_lt}
-use Rattle.std.specs.Borrow.{Bor}
+use Rattle.std.specs.Prelude.{ℕ, ◌+◌, Bool, false, cond, List, [], ◌∷◌, length, Some, None, Option, ◌==◌, nat_lt}
 use Rattle.model.specs.Blocks.{closed}
 use Rattle.model.specs.declared.line.Line.{Line}
 use Rattle.model.specs.declared.range.Range.{Range}
 use Rattle.program.specs.Entry.{LineAnswer, taken, turned_down, line_answer, lines_after}
 use Rattle.session.specs.Answers.{allow_answer, no_ranges, ranges_after}
-use Rattle.session.specs.Memory.{Memory, memory}
-use Rattle.session.specs.declared.session.Session.{Session}
 use Rattle.console.specs.declared.range_line.RangeLine.{RangeLine}
-use Rattle.console.specs.declared.refusal.Refusal.{Refusal}
-use Rattle.console.specs.declared.report.Rejection.{Rejection}
 use Rattle.console.specs.Lines.{lines_of}
 use Rattle.console.specs.RangeLines.{range_of}
-use Rattle.console.specs.Report.{refusal_number, refusal_place, or_zero}
+use Rattle.console.specs.Report.{or_zero}
 
 abbrev pub max_input : ℕ
 max_input = 32768
@@ -37,10 +32,6 @@ by_range (Some a) = allow_answer a.parameter a.range
 abbrev pub range_answer : List ℕ → Option ℕ
 range_answer l = by_range (range_of l)
 
-abbrev pub range_said : Result (Unit {0}) Refusal → Option ℕ
-range_said (Ok u) = None
-range_said (Err e) = Some (refusal_number e)
-
 -- the allowed ranges after a range line
 abbrev pub allowed_by : List Range → Option RangeLine → List Range
 allowed_by ts None = ts
@@ -62,11 +53,6 @@ abbrev pub skip : List Range → List (List ℕ) → Skipped
 skip ts [] = rest ts []
 skip ts (l ∷ ls) = cond (is_range l) (after_range (range_answer l) (skip (allowed_after ts l) ls)) (rest ts (l ∷ ls))
 
--- the rest of the text holds what is left of its lines
-abbrev pub Skips : List Range → List ℕ → Result (Bor (List ℕ)) Refusal → List Range → Type 0
-Skips ts bs (Ok r) us = (skip ts (lines_of bs) ≡ rest us (lines_of r.now)) × (length r.now ≤ length bs)
-Skips ts bs (Err e) us = (skip ts (lines_of bs) ≡ stopped (refusal_number e)) × (refusal_place e ≡ 0)
-
 -- ---- the program
 -- a block that is left open is refused at the end
 abbrev pub ending : List Range → List Line → Reading
@@ -87,19 +73,3 @@ by_skipped (stopped k) = stopped_at 0 k 0
 
 abbrev pub reading_of : List ℕ → Reading
 reading_of bs = cond (nat_lt max_input (length bs)) (stopped_at 0 46 0) (by_skipped (skip no_ranges (lines_of bs)))
-
--- ---- a session that reads
--- what a session holds, as what was read
-abbrev pub read_by : Memory → Reading
-read_by m = ending m.allowed m.program
-
-abbrev pub stopped_by : Rejection → Reading
-stopped_by e = stopped_at e.line (refusal_number e.refusal) (refusal_place e.refusal)
-
-abbrev pub added : Result (Unit {0}) Rejection → Memory → Reading
-added (Ok u) m = read_by m
-added (Err e) m = stopped_by e
-
-abbrev pub reading_said : {T : Type 0} → Result (Session T) Rejection → Reading
-reading_said (Ok s) = read_by (memory s)
-reading_said (Err e) = stopped_by e

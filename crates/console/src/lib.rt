@@ -2,6 +2,7 @@
 
 #![tactic(auto)]
 
+mod asked;
 pub mod input;
 pub mod lines;
 pub mod range_line;

@@ -1,80 +1,68 @@
--- What a command is answered, in numbers, and the text of the answer.
-use Rattle.std.specs.Prelude.{ℕ, List, ◌++◌, Some, None, Ok, Err, codes, decimal, Option, Result}
-use Rattle.model.specs.declared.ending.Ending.{Ending}
-use Rattle.model.specs.declared.ending.Failure.{Failure}
-use Rattle.model.specs.declared.range.Range.{Range}
+-- What a call is answered, as the law has it, and the text of what is said of a line that makes none.
+use Rattle.std.specs.Prelude.{ℕ, List, ◌++◌, Ok, Err, codes, decimal, Result}
 use Rattle.certify.specs.declared.refusal.CertifyRefusal.{CertifyRefusal}
 use Rattle.certify.specs.declared.refusal.CertifyRefusal.TheVariants.{Open, Store, Uncertified}
 use Rattle.certify.specs.Refusals.{certify_number}
 use Rattle.program.specs.Entry.{line_number, line_place}
-use Rattle.session.specs.Answers.{allow_number, dry_number}
+use Rattle.session.specs.Answers.{allow_number, dry_number, start_number, start_parameter, step_number}
+use Rattle.session.specs.declared.progress.Progress.{Progress}
+use Rattle.session.specs.declared.progress.Progress.TheVariants.{WentOn as Went, Commanded as Position, Ended as End}
 use Rattle.travel.specs.Refusals.{travel_number}
+use Rattle.calls.specs.Said.{Detail, nothing, place, parameter, failure, placed, numbered, verdict_detail, Said, done, certificate, came, went_on, commanded, ended, refused}
+use Rattle.desk.specs.declared.answer.Note.{Note}
+use Rattle.desk.specs.declared.answer.Note.TheVariants.{NoTable, Bad}
 use Rattle.desk.specs.declared.answer.Refusal.{Refusal}
-use Rattle.desk.specs.declared.answer.Refusal.TheVariants.{Travel as OfTravel, Line as OfLine, Allow as OfAllow, Dry as OfDry, Certify as OfCertify}
-use Rattle.desk.specs.declared.answer.Answer.{Answer}
-use Rattle.desk.specs.declared.answer.Answer.TheVariants.{Done, Refused, Came, Certified, Bad}
-use Rattle.desk.specs.Texts.{failure_text, ending_text, place_text, hulls_text}
+use Rattle.desk.specs.declared.answer.Refusal.TheVariants.{Line as OfLine, Allow as OfAllow, Certify as OfCertify, Start as OfStart, Step as OfStep, Dry as OfDry}
+use Rattle.desk.specs.declared.answer.Reply.{Reply}
+use Rattle.desk.specs.declared.answer.Reply.TheVariants.{Done, Certified, WentOn, Commanded, Ended, Came, Refused}
+use Rattle.desk.specs.declared.text.Detail.{Detail as TextDetail}
+use Rattle.desk.specs.declared.text.Detail.TheVariants.{Nothing, Place, Parameter, Failure}
 
 abbrev pub refusal_number : Refusal → ℕ
-refusal_number (OfTravel e) = travel_number e
 refusal_number (OfLine e) = line_number e
 refusal_number (OfAllow e) = allow_number e
-refusal_number (OfDry e) = dry_number e
 refusal_number (OfCertify e) = certify_number e
+refusal_number (OfStart e) = start_number e
+refusal_number (OfStep e) = step_number e
+refusal_number (OfDry e) = dry_number e
 
--- only a text has places
-abbrev pub refusal_place : Refusal → Option ℕ
-refusal_place (OfTravel e) = None
-refusal_place (OfLine e) = line_place e
-refusal_place (OfAllow e) = None
-refusal_place (OfDry e) = None
-refusal_place (OfCertify e) = None
+abbrev pub refusal_detail : Refusal → Detail
+refusal_detail (OfLine e) = placed (line_place e)
+refusal_detail (OfAllow e) = nothing
+refusal_detail (OfCertify e) = verdict_detail e
+refusal_detail (OfStart e) = numbered (start_parameter e)
+refusal_detail (OfStep e) = nothing
+refusal_detail (OfDry e) = nothing
 
-abbrev pub failing : CertifyRefusal → Option Failure
-failing Open = None
-failing Store = None
-failing (Uncertified f) = Some f
-
--- only a verdict has a failure
-abbrev pub refusal_failure : Refusal → Option Failure
-refusal_failure (OfTravel e) = None
-refusal_failure (OfLine e) = None
-refusal_failure (OfAllow e) = None
-refusal_failure (OfDry e) = None
-refusal_failure (OfCertify e) = failing e
-
-pub data Said : Type 0 where
-  done : Said
-  refused : ℕ → Option ℕ → Said
-  failed : ℕ → Failure → Said
-  came : Ending → Said
-  hulls : List (Option Range) → Said
-  bad_at : ℕ → Said
-
--- a number, and what comes with it
-abbrev pub refused_with : ℕ → Option ℕ → Option Failure → Said
-refused_with k p None = refused k p
-refused_with k p (Some f) = failed k f
+-- the code's detail, as the law's
+abbrev pub detail : TextDetail → Detail
+detail Nothing = nothing
+detail (Place p) = place p
+detail (Parameter n) = parameter n
+detail (Failure f) = failure f
 
 abbrev pub why : Refusal → Said
-why e = refused_with (refusal_number e) (refusal_place e) (refusal_failure e)
+why e = refused (refusal_number e) (refusal_detail e)
 
-abbrev pub said : Answer → Said
+abbrev pub said : Reply → Said
 said Done = done
-said (Refused e) = why e
+said (Certified c) = certificate c.hulls
+said WentOn = went_on
+said (Commanded p) = commanded p
+said Ended = ended
 said (Came o) = came o
-said (Certified c) = hulls c.hulls
-said (Bad n) = bad_at n
+said (Refused e) = why e
 
-abbrev pub said_or_why : Result Answer Refusal → Said
+abbrev pub said_or_why : Result Reply Refusal → Said
 said_or_why (Ok a) = said a
 said_or_why (Err e) = why e
 
--- ---- the text of an answer
-abbrev pub said_text : Said → List ℕ
-said_text done = codes "ok"
-said_text (refused k p) = codes "refused " ++ (decimal k ++ place_text p)
-said_text (failed k f) = codes "refused " ++ (decimal k ++ (codes " " ++ failure_text f))
-said_text (came o) = ending_text o
-said_text (hulls hs) = codes "certified " ++ hulls_text hs
-said_text (bad_at n) = codes "bad command " ++ decimal n
+abbrev pub reply_of : Progress → Reply
+reply_of Went = WentOn
+reply_of (Position p) = Commanded p
+reply_of End = Ended
+
+-- ---- lines that ask for no call and no session
+abbrev pub note_text : Note → List ℕ
+note_text (NoTable e) = codes "refused " ++ decimal (travel_number e)
+note_text (Bad n) = codes "bad command " ++ decimal n

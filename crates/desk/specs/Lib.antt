@@ -1,3 +1,3 @@
 pub mod Texts
 pub mod Answers
-pub mod Serving
+pub mod Scripts

@@ -7,6 +7,8 @@ use Rattle.model.specs.declared.ending.Ending.{Ending}
 use Rattle.model.specs.declared.ending.Ending.TheVariants.{Ended, Running, Stopped}
 use Rattle.model.specs.declared.ending.Failure.{Failure}
 use Rattle.model.specs.declared.range.Range.{Range}
+use Rattle.model.specs.Axes.{Position}
+use Rattle.calls.specs.Said.{Detail, nothing, place, parameter, failure, Said, done, certificate, came, went_on, commanded, ended, refused}
 
 abbrev pub cause_text : Cause → List ℕ
 cause_text Arithmetic = codes "arithmetic"
@@ -21,9 +23,14 @@ ending_text Ended = codes "ended"
 ending_text Running = codes "running"
 ending_text (Stopped f) = codes "stopped " ++ failure_text f
 
-abbrev pub place_text : Option ℕ → List ℕ
-place_text None = codes ""
-place_text (Some p) = codes " " ++ decimal p
+abbrev pub detail_text : Detail → List ℕ
+detail_text nothing = codes ""
+detail_text (place p) = codes " " ++ decimal p
+detail_text (parameter n) = codes " " ++ decimal n
+detail_text (failure f) = codes " " ++ failure_text f
+
+abbrev pub position_text : Position → List ℕ
+position_text p = signed_decimal p.x ++ (codes " " ++ (signed_decimal p.y ++ (codes " " ++ (signed_decimal p.z ++ (codes " " ++ signed_decimal p.u)))))
 
 -- the least and the greatest number, or that there is none
 abbrev pub hull_text : Option Range → List ℕ
@@ -36,3 +43,13 @@ axis_text hs k = hull_text (slice_index_or hs k None)
 
 abbrev pub hulls_text : List (Option Range) → List ℕ
 hulls_text hs = axis_text hs 0 ++ (codes " " ++ (axis_text hs 1 ++ (codes " " ++ (axis_text hs 2 ++ (codes " " ++ axis_text hs 3)))))
+
+-- ---- the text of an answer
+abbrev pub said_text : Said → List ℕ
+said_text done = codes "ok"
+said_text (certificate hs) = codes "certified " ++ hulls_text hs
+said_text (came o) = ending_text o
+said_text went_on = codes "went on"
+said_text (commanded p) = codes "position " ++ position_text p
+said_text ended = codes "ended"
+said_text (refused k d) = codes "refused " ++ (decimal k ++ detail_text d)

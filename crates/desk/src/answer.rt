@@ -1,32 +1,28 @@
-// What a command is answered, and its text.
+// What a call is answered, and what is said of a line that makes none, with the texts.
 ghost use Rattle.std.specs.Prelude.{◌≡◌, Some};
-ghost use Rattle.desk.specs.declared.answer.Refusal.TheVariants.{Travel, Line, Allow, Dry, Certify};
-ghost use Rattle.desk.specs.Answers.{refusal_number, refusal_place, refusal_failure, why, said, said_text};
+ghost use Rattle.desk.specs.declared.answer.Refusal.TheVariants.{Line, Allow, Certify, Start, Step, Dry};
+ghost use Rattle.desk.specs.Answers.{refusal_number, detail, refusal_detail, reply_of, why, said, note_text};
+ghost use Rattle.desk.specs.Texts.{said_text};
 
-use crate::text::{FailureText, HullText};
+use crate::text::{Detail, FailureText, HullText};
 use certify::refusal::{Certificate, CertifyRefusal};
-use model::ending::{Ending, Failure};
+use model::axes::Position;
+use model::ending::Ending;
 use program::refusal::LineRefusal;
-use session::refusal::{AllowRefusal, DryRefusal};
+use session::progress::Progress;
+use session::refusal::{AllowRefusal, DryRefusal, StartRefusal, StepRefusal};
 use std::fmt;
 use travel::refusal::TravelRefusal;
 
 // Not the console's, which has other refusals beside the two in common and prints a place always.
 #[derive(Clone, Copy)]
 pub enum Refusal {
-    Travel(TravelRefusal),
     Line(LineRefusal),
     Allow(AllowRefusal),
-    Dry(DryRefusal),
     Certify(CertifyRefusal),
-}
-
-impl From<TravelRefusal> for Refusal {
-    ghost from_gives = { λ refusal result. result ≡ Travel refusal };
-
-    fn from(refusal: TravelRefusal) -> Refusal {
-        Refusal::Travel(refusal)
-    }
+    Start(StartRefusal),
+    Step(StepRefusal),
+    Dry(DryRefusal),
 }
 
 impl From<LineRefusal> for Refusal {
@@ -45,19 +41,35 @@ impl From<AllowRefusal> for Refusal {
     }
 }
 
-impl From<DryRefusal> for Refusal {
-    ghost from_gives = { λ refusal result. result ≡ Dry refusal };
-
-    fn from(refusal: DryRefusal) -> Refusal {
-        Refusal::Dry(refusal)
-    }
-}
-
 impl From<CertifyRefusal> for Refusal {
     ghost from_gives = { λ refusal result. result ≡ Certify refusal };
 
     fn from(refusal: CertifyRefusal) -> Refusal {
         Refusal::Certify(refusal)
+    }
+}
+
+impl From<StartRefusal> for Refusal {
+    ghost from_gives = { λ refusal result. result ≡ Start refusal };
+
+    fn from(refusal: StartRefusal) -> Refusal {
+        Refusal::Start(refusal)
+    }
+}
+
+impl From<StepRefusal> for Refusal {
+    ghost from_gives = { λ refusal result. result ≡ Step refusal };
+
+    fn from(refusal: StepRefusal) -> Refusal {
+        Refusal::Step(refusal)
+    }
+}
+
+impl From<DryRefusal> for Refusal {
+    ghost from_gives = { λ refusal result. result ≡ Dry refusal };
+
+    fn from(refusal: DryRefusal) -> Refusal {
+        Refusal::Dry(refusal)
     }
 }
 
@@ -67,30 +79,23 @@ impl Refusal {
         ensures { result ≡ refusal_number self }
     {
         match self {
-            Refusal::Travel(e) => e.number(),
             Refusal::Line(e) => e.number(),
             Refusal::Allow(e) => e.number(),
-            Refusal::Dry(e) => e.number(),
             Refusal::Certify(e) => e.number(),
+            Refusal::Start(e) => e.number(),
+            Refusal::Step(e) => e.number(),
+            Refusal::Dry(e) => e.number(),
         }
     }
 
-    fn place(self) -> Option<usize>
-        ensures { result ≡ refusal_place self }
+    fn detail(self) -> Detail
+        ensures { detail result ≡ refusal_detail self }
     {
         match self {
-            Refusal::Line(e) => e.place(),
-            _ => None,
-        }
-    }
-
-    // The line that is not certified.
-    fn failure(self) -> Option<Failure>
-        ensures { result ≡ refusal_failure self }
-    {
-        match self {
-            Refusal::Certify(CertifyRefusal::Uncertified(failure)) => Some(failure),
-            _ => None,
+            Refusal::Line(e) => e.place().map_or(Detail::Nothing, Detail::Place),
+            Refusal::Certify(CertifyRefusal::Uncertified(failure)) => Detail::Failure(failure),
+            Refusal::Start(StartRefusal::Outside(parameter)) => Detail::Parameter(parameter),
+            _ => Detail::Nothing,
         }
     }
 }
@@ -100,52 +105,76 @@ impl fmt::Display for Refusal {
 
     fn fmt<W: fmt::Write>(&self, f: &mut fmt::Formatter<W>) -> fmt::Result {
         let number = self.number();
-        if let Some(failure) = self.failure() {
-            return write!(f, "refused {number} {}", FailureText(failure));
-        }
-        match self.place() {
-            None => write!(f, "refused {number}"),
-            Some(place) => write!(f, "refused {number} {place}"),
+        write!(f, "refused {number}{}", self.detail())
+    }
+}
+
+// One type for the answers of all calls, since a Result is not printed.
+#[derive(Clone, Copy)]
+pub enum Reply {
+    Done,
+    Certified(Certificate),
+    WentOn,
+    Commanded(Position),
+    Ended,
+    // what a dry run comes to
+    Came(Ending),
+    Refused(Refusal),
+}
+
+impl From<Progress> for Reply {
+    ghost from_gives = { λ progress result. result ≡ reply_of progress };
+
+    fn from(progress: Progress) -> Reply {
+        match progress {
+            Progress::WentOn => Reply::WentOn,
+            Progress::Commanded(position) => Reply::Commanded(position),
+            Progress::Ended => Reply::Ended,
         }
     }
 }
 
-// One type for all that is printed, since a Result is not.
-#[derive(Clone, Copy)]
-pub enum Answer {
-    Done,
-    Refused(Refusal),
-    // what a dry run comes to
-    Came(Ending),
-    Certified(Certificate),
-    // no command stands on this line of the script
-    Bad(usize),
-}
-
-impl fmt::Display for Answer {
+impl fmt::Display for Reply {
     ghost output = { λ a. Some (said_text (said a)) };
 
     fn fmt<W: fmt::Write>(&self, f: &mut fmt::Formatter<W>) -> fmt::Result {
         match *self {
-            Answer::Done => write!(f, "ok"),
-            Answer::Refused(refusal) => write!(f, "{refusal}"),
-            Answer::Came(Ending::Ended) => write!(f, "ended"),
-            Answer::Came(Ending::Running) => write!(f, "running"),
-            Answer::Came(Ending::Stopped(failure)) => {
+            Reply::Done => write!(f, "ok"),
+            Reply::Certified(certificate) => {
+                let [x, y, z, u] = certificate.hulls.map(HullText);
+                write!(f, "certified {x} {y} {z} {u}")
+            }
+            Reply::WentOn => write!(f, "went on"),
+            Reply::Commanded(Position { x, y, z, u }) => write!(f, "position {x} {y} {z} {u}"),
+            Reply::Ended | Reply::Came(Ending::Ended) => write!(f, "ended"),
+            Reply::Came(Ending::Running) => write!(f, "running"),
+            Reply::Came(Ending::Stopped(failure)) => {
                 write!(f, "stopped {}", FailureText(failure))
             }
-            Answer::Certified(certificate) => {
-                let [x, y, z, u] = certificate.hulls;
-                write!(
-                    f,
-                    "certified {} {} {} {}",
-                    HullText(x),
-                    HullText(y),
-                    HullText(z),
-                    HullText(u),
-                )
+            Reply::Refused(refusal) => write!(f, "{refusal}"),
+        }
+    }
+}
+
+// What is said of a line of a script that asks for no call and no session.
+#[derive(Clone, Copy)]
+pub enum Note {
+    // there is no such table
+    NoTable(TravelRefusal),
+    // no command stands on this line, counted from 1
+    Bad(usize),
+}
+
+impl fmt::Display for Note {
+    ghost output = { λ n. Some (note_text n) };
+
+    fn fmt<W: fmt::Write>(&self, f: &mut fmt::Formatter<W>) -> fmt::Result {
+        match *self {
+            Note::NoTable(refusal) => {
+                let number = refusal.number();
+                write!(f, "refused {number}")
             }
-            Answer::Bad(line) => write!(f, "bad command {line}"),
+            Note::Bad(line) => write!(f, "bad command {line}"),
         }
     }
 }

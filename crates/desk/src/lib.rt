@@ -1,7 +1,8 @@
-// The service desk: a script of commands, each played on a session, and the answers in words.
+// The service desk: what the lines of a script ask for, the calls among them as a list, and the answers in words.
 
 #![tactic(auto)]
 
 pub mod answer;
 pub mod desk;
+pub mod entry;
 mod text;

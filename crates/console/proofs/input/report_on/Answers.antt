@@ -1,25 +1,27 @@
 -- The report by the rules is the only one.
-use Rattle.std.proofs.Common.{refl, sym, ◌∙◌, subst}
-use Rattle.console.specs.declared.report.Report.TheVariants.{Refused}
-use Rattle.console.specs.Report.{said}
-use Rattle.console.specs.Verdicts.{Reported, Promises}
-use Rattle.console.proofs.Reports.{reported_too, promises_too, refused_report, the_report}
+use Rattle.std.proofs.Common.{map, sym, ap, ◌∙◌, subst, arith}
+use Rattle.console.specs.Law.{TheReport}
+use Rattle.console.specs.Report.{refused_at, refusal_number, refusal_place}
+use Rattle.console.proofs.Readings.{long_reading}
+use Rattle.console.proofs.Reports.{refused_report, law_answered, is_answered, promised_answered}
 use Rattle.console.proofs.input.report_on.Goals as goal
 
-pub returns-in-Ok-clause-law : goal.returns-in-Ok-clause-law
-returns-in-Ok-clause-law c = the_report _ c.in-Ok.session.travel c.in-Ok.ensures.travel.1 _ _ c.in-Ok.ensures.reads c.judge.ensures.verdict
+pub returns-then-input-gt-MAX_INPUT-clause-law : goal.returns-then-input-gt-MAX_INPUT-clause-law
+returns-then-input-gt-MAX_INPUT-clause-law c =
+    let bs = c.args.input.now in
+    subst (λ r. TheReport bs (refused_at r.line (refusal_number r.refusal) (refusal_place r.refusal))) (sym c.into.ensures) (refused_report bs 0 46 0 (long_reading bs (omega arith)))
 
-pub returns-in-Ok-clause-is : goal.returns-in-Ok-clause-is
-returns-in-Ok-clause-is c = λ g made. subst (λ r. Reported g r (said c.judge.result)) c.in-Ok.ensures.reads (reported_too c.in-Ok.session.travel g (c.in-Ok.ensures.travel.1 ∙ sym made.1) _ _ c.judge.ensures.verdict)
+pub returns-clause-law : goal.returns-clause-law
+returns-clause-law c =
+    let noted = c.in_ok-malformed.ensures in
+    law_answered c.args.input.now (omega arith) _ _ _ _ _ c.new-ranges.ensures.items (c.deref_mut.ensures.value ∙ noted.ranges) _ c.new-lines.ensures.items (λ ps e. ap (map (λ l. l.text.now)) c.deref_mut-3.ensures.value ∙ noted.lines ps e) noted.malformed c.judge.ensures
 
-pub returns-in-Ok-clause-promised : goal.returns-in-Ok-clause-promised
-returns-in-Ok-clause-promised c = λ g made. subst (λ r. Promises g r (said c.judge.result)) c.in-Ok.ensures.reads (promises_too c.in-Ok.session.travel g (c.in-Ok.ensures.travel.1 ∙ sym made.1) _ _ c.judge.ensures.promised)
+pub returns-clause-is : goal.returns-clause-is
+returns-clause-is c =
+    let noted = c.in_ok-malformed.ensures in
+    is_answered c.args.input.now (omega arith) _ _ _ _ _ c.new-ranges.ensures.items (c.deref_mut.ensures.value ∙ noted.ranges) _ c.new-lines.ensures.items (λ ps e. ap (map (λ l. l.text.now)) c.deref_mut-3.ensures.value ∙ noted.lines ps e) noted.malformed c.judge.ensures
 
-pub returns-in-Err-clause-law : goal.returns-in-Err-clause-law
-returns-in-Err-clause-law c = refused_report _ _ _ _ c.in-Err.ensures.reads
-
-pub returns-in-Err-clause-is : goal.returns-in-Err-clause-is
-returns-in-Err-clause-is c = λ g made. subst (λ r. Reported g r (said (Refused c.in-Err.rejection))) c.in-Err.ensures.reads refl
-
-pub returns-in-Err-clause-promised : goal.returns-in-Err-clause-promised
-returns-in-Err-clause-promised c = λ g made. subst (λ r. Promises g r (said (Refused c.in-Err.rejection))) c.in-Err.ensures.reads tt
+pub returns-clause-promised : goal.returns-clause-promised
+returns-clause-promised c =
+    let noted = c.in_ok-malformed.ensures in
+    promised_answered c.args.input.now (omega arith) _ _ _ _ _ c.new-ranges.ensures.items (c.deref_mut.ensures.value ∙ noted.ranges) _ c.new-lines.ensures.items (λ ps e. ap (map (λ l. l.text.now)) c.deref_mut-3.ensures.value ∙ noted.lines ps e) noted.malformed c.judge.ensures

@@ -1,6 +1,6 @@
 use Rattle.std.proofs.Common.{◌≡◌, subst, to_z, of_z, w32, SFits, rules}
 use Rattle.std.proofs.lemmas.Int.{to_z-of_z}
-use Rattle.desk.specs.Serving.{OnBeam}
+use Rattle.desk.specs.Scripts.{OnBeam}
 use Rattle.desk.proofs.desk.on_beam.Goals as goal
 
 pub returns : goal.returns
