@@ -1,12 +1,14 @@
 #!/usr/bin/env python3
 """Plants each bug of tools/planted.txt, one at a time, and says whether the prover refuses it.
 
-usage: tools/planted.py [CRATE..]
+usage: tools/planted.py [--from LINE] [CRATE..]
 
 A bug is four lines, `crate:`, `file:`, `old:` and `new:`, and the text behind `old:` stands in that file exactly once. The bugs are tried
 as must-fail edits, in a copy of the last commit, so what `rt` keeps is of use to them. With names, only the bugs of those crates
-are tried. The status is 0 where each of them is refused."""
+are tried, and with a line, only those that begin there or below. The status is 0 where each of them is refused at a fact: a refusal
+by a limit, or since a proof names what is gone, says nothing of the contract."""
 
+import argparse
 import os
 import subprocess
 import sys
@@ -14,14 +16,19 @@ import tempfile
 
 HERE = os.path.dirname(os.path.dirname(os.path.abspath(__file__)))
 
+# How rt begins what it says of a refused edit, and of one whose refusal says nothing of the contract.
+REFUSED = "refused, as it must be"
+SAYS_NOTHING = REFUSED + " (only"
+
 
 def bugs(path):
     found, entry = [], {}
     with open(path, encoding="utf-8") as f:
-        for line in f:
+        for number, line in enumerate(f, 1):
             key, sign, text = line.rstrip("\n").partition(": ")
             if not sign or line.startswith("#"):
                 continue
+            entry.setdefault("line", number)
             entry[key] = text
             if key == "new":
                 found.append(entry)
@@ -43,27 +50,43 @@ def plant(root, wanted):
     return crates
 
 
-def main():
-    wanted = [b for b in bugs(os.path.join(HERE, "tools", "planted.txt")) if not sys.argv[1:] or b["crate"] in sys.argv[1:]]
+def options():
+    parser = argparse.ArgumentParser(description="Plants bugs, and says whether the prover refuses them.")
+    parser.add_argument("--from", dest="first", type=int, default=1, metavar="LINE", help="only the bugs from this line of the list on")
+    parser.add_argument("crates", nargs="*", metavar="CRATE", help="only the bugs of these crates")
+    return parser.parse_args()
+
+
+def attempts(wanted):
+    """What rt says of each bug, by its number."""
     with tempfile.TemporaryDirectory() as root:
         subprocess.run(["git", "clone", "-q", HERE, root], check=True)
         crates = plant(root, wanted)
         run = subprocess.run(["rt", "must-fail", *crates], cwd=root, capture_output=True, text=True)
-    refused = {}
+    said = {}
     for line in (run.stdout + run.stderr).splitlines():
         for n, bug in enumerate(wanted):
             if f"{bug['crate']}/planted-{n}.edit:" in line:
-                refused[n] = line.split(".edit: ", 1)[1]
-    survived = 0
+                said[n] = line.split(".edit: ", 1)[1]
+    return said
+
+
+def main():
+    asked = options()
+    listed = bugs(os.path.join(HERE, "tools", "planted.txt"))
+    wanted = [b for b in listed if b["line"] >= asked.first and (not asked.crates or b["crate"] in asked.crates)]
+    if not wanted:
+        sys.exit("planted.py: no bug is asked for")
+    said = attempts(wanted)
+    refused = 0
     for n, bug in enumerate(wanted):
-        said = refused.get(n, "not tried")
-        if not said.startswith("refused"):
-            survived += 1
-            print(f"NOT REFUSED {bug['crate']} {bug['file']}: {bug['new']}: {said}")
-        else:
-            print(f"refused {bug['crate']} {bug['file']}: {bug['new']}: {said[29:120]}")
-    print(f"{len(wanted)} bugs, {len(wanted) - survived} refused")
-    return 1 if survived else 0
+        verdict = said.get(n, "not tried")
+        at_a_fact = verdict.startswith(REFUSED) and not verdict.startswith(SAYS_NOTHING)
+        refused += at_a_fact
+        why = verdict.removeprefix(REFUSED).removeprefix(": ")[:160]
+        print(f"{'refused' if at_a_fact else 'NOT REFUSED'} line {bug['line']}: {bug['crate']} {bug['file']}: {bug['new']}: {why}")
+    print(f"{len(wanted)} bugs, {refused} refused")
+    return 0 if refused == len(wanted) else 1
 
 
 if __name__ == "__main__":

@@ -1,5 +1,5 @@
 -- What a tape of steps is answered, from the law.
-use Rattle.std.proofs.Common.{◌≡◌, ℕ, true, List, [], ◌∷◌, ◌++◌, length, map, take, is_ok, IsOk, Ok, Err, Result, ℤ, Option, refl, ap, subst, arith}
+use Rattle.std.proofs.Common.{◌≡◌, ℕ, true, List, [], ◌∷◌, ◌++◌, length, map, take, reverse, is_ok, IsOk, Ok, Err, Result, ℤ, Option, refl, ap, subst, arith}
 use Rattle.std.specs.List.{All, AllPass, AllByRecursion}
 use Rattle.std.proofs.lemmas.List.Elements.{All-from_recursion}
 use Rattle.model.specs.Axes.{Position}
@@ -10,10 +10,10 @@ use Rattle.session.specs.declared.progress.Progress.{Progress}
 use Rattle.session.specs.declared.progress.Progress.TheVariants.{WentOn, Commanded, Ended}
 use Rattle.session.specs.declared.refusal.StartRefusal.{StartRefusal}
 use Rattle.session.specs.declared.refusal.StepRefusal.{StepRefusal}
-use Rattle.calls.specs.Law.{Event, Lawfully, accepted, start, step, certificate_of}
+use Rattle.calls.specs.Law.{Event, Lawfully, Starts, accepted, start, standing, step, certificate_of}
 use Rattle.calls.specs.Said.{Said, by_start}
 use Rattle.calls.specs.Answers.{event, by_stepped, recorded}
-use Rattle.calls.proofs.Consequences.{later, lawful_rest, begun_goes, steps_accepted, CommandsWithin, steps_inside}
+use Rattle.calls.proofs.Consequences.{later, lawful_rest, later_reverse, begun_goes, steps_accepted, CommandsWithin, steps_inside}
 use Rattle.clients.specs.Commands.{CommandsIn}
 
 abbrev pub Answer : Type 0
@@ -73,7 +73,8 @@ module _ (region : Position → Type 0) (sides : List Side) (home : Position) wh
   -- ---- after any calls
   pub steps_kept : {S : Type 0} (es : List Event) (vs : List ℤ) (begun : Result (Unit {0}) StartRefusal) (cs ds : List S) (rs : List Answer) → length ds ≡ length cs
       → Lawfully region sides home [] (es ++ (event (start vs) (by_start (start_said begun)) ∷ recorded stepped cs ds rs))
-      → (IsOk begun → AllPass is_ok (take (length cs) rs)) × All (CommandsIn region) (take (length cs) rs)
+      → Starts (standing home (reverse es)) vs (by_start (start_said begun)) × (IsOk begun → AllPass is_ok (take (length cs) rs)) × All (CommandsIn region) (take (length cs) rs)
   steps_kept es vs begun cs ds rs same law =
       let after = lawful_rest region sides home [] es (event (start vs) (by_start (start_said begun)) ∷ recorded stepped cs ds rs) law in
-      (steps_ok (later [] es) vs begun cs ds rs same after, steps_in (later [] es) vs begun cs ds rs same region _ refl (λ p h. h.0) after)
+      let begins = subst (λ (past : List Event). Starts (standing home past) vs (by_start (start_said begun))) (later_reverse es) after.0 in
+      (begins, steps_ok (later [] es) vs begun cs ds rs same after, steps_in (later [] es) vs begun cs ds rs same region _ refl (λ p h. h.0) after)

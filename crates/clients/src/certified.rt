@@ -1,7 +1,10 @@
 // A certificate, and a run that begins under it.
-ghost use Rattle.std.specs.Prelude.{IfOk, length, take};
+ghost use Rattle.std.specs.Prelude.{IfOk, length, take, reverse};
 ghost use Rattle.std.specs.List.{All};
 ghost use Rattle.session.specs.Promises.{InHulls};
+ghost use Rattle.calls.specs.Answers.{domain};
+ghost use Rattle.calls.specs.Law.{Certifies, standing};
+ghost use Rattle.calls.specs.Said.{by_verdict};
 ghost use Rattle.clients.specs.Commands.{CommandsIn};
 
 use calls::calls::Calls;
@@ -14,14 +17,14 @@ use domain::domain::Domain;
 use travel::travel::Travel;
 
 // Under a certificate each position that steps command lies in the ranges that it names, whatever the domain and the values.
+// The answers of the calls before it come first, since the verdict is on what they leave.
 pub fn step_certified<T: Travel + Drop, C: Calls, D: Domain>(
     travel: T,
     list: &mut Then<C, Then<Certify<D>, Then<Start, Tape<Step>>>>,
-) -> Result<Certificate, CertifyRefusal>
-where
-    C::Answers: Drop,
-    ensures { IfOk result (λ c. All (CommandsIn (λ p. InHulls p c.hulls)) (take (length list.old.rest.rest.rest.calls.now) list.new.rest.rest.rest.answers.now)) }
+) -> (C::Answers, Result<Certificate, CertifyRefusal>)
+    ensures judged { Certifies (T.sides travel) (T.origin travel) (standing (T.origin travel) (reverse (C.events list.old.first list.new.first result.0))) (domain D.lattice D.exact) (length list.old.rest.first.store.now) (by_verdict result.1) }
+    ensures inside { IfOk result.1 (λ c. All (CommandsIn (λ p. InHulls p c.hulls)) (take (length list.old.rest.rest.rest.calls.now) list.new.rest.rest.rest.answers.now)) }
 {
     let answers = replay(travel, list);
-    answers.1.0
+    (answers.0, answers.1.0)
 }

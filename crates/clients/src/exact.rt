@@ -1,7 +1,9 @@
 // Certify and dry, one after the other.
-ghost use Rattle.std.specs.Prelude.{length};
-ghost use Rattle.calls.specs.Answers.{by_dried};
-ghost use Rattle.calls.specs.Law.{SameAs};
+ghost use Rattle.std.specs.Prelude.{length, reverse, true};
+ghost use Rattle.model.specs.Environments.{registers};
+ghost use Rattle.pointwise.specs.States.{pointwise};
+ghost use Rattle.calls.specs.Answers.{by_dried, domain};
+ghost use Rattle.calls.specs.Law.{Certifies, Dries, SameAs, standing};
 ghost use Rattle.calls.specs.Said.{by_verdict};
 ghost use Rattle.clients.specs.Exactness.{HasOneRun};
 
@@ -16,7 +18,8 @@ use pointwise::state::Pointwise;
 use session::refusal::DryRefusal;
 use travel::travel::Travel;
 
-// Where a program has one run alone, certify by sets of numbers says what a dry run comes to.
+// Where a program has one run alone, certify by sets of numbers says what a dry run comes to. Both are asked of what the calls before
+// them leave.
 pub fn certify_and_dry<T: Travel + Drop, C: Calls, V: NumberSet>(
     travel: T,
     list: &mut Then<C, Then<Certify<Pointwise<V>>, Dry>>,
@@ -27,7 +30,9 @@ pub fn certify_and_dry<T: Travel + Drop, C: Calls, V: NumberSet>(
         Result<Ending, DryRefusal>,
     ),
 )
-    ensures { (HasOneRun (C.events list.old.first list.new.first result.0) (length list.old.rest.first.store.now) list.old.rest.rest.values list.old.rest.rest.steps → SameAs (by_verdict result.1.0) (by_dried result.1.1)) }
+    ensures judged { Certifies (T.sides travel) (T.origin travel) (standing (T.origin travel) (reverse (C.events list.old.first list.new.first result.0))) (domain (pointwise V.sets registers) true) (length list.old.rest.first.store.now) (by_verdict result.1.0) }
+    ensures dried { Dries (T.sides travel) (T.origin travel) (standing (T.origin travel) (reverse (C.events list.old.first list.new.first result.0))) list.old.rest.rest.values list.old.rest.rest.steps (by_dried result.1.1) }
+    ensures same { (HasOneRun (C.events list.old.first list.new.first result.0) (length list.old.rest.first.store.now) list.old.rest.rest.values list.old.rest.rest.steps → SameAs (by_verdict result.1.0) (by_dried result.1.1)) }
 {
     let (before, both) = replay(travel, list);
     (before, both)

@@ -1,6 +1,9 @@
 // A start, and steps after it.
-ghost use Rattle.std.specs.Prelude.{IsOk, length, take, is_ok};
+ghost use Rattle.std.specs.Prelude.{IsOk, length, take, reverse, is_ok};
 ghost use Rattle.std.specs.List.{All, AllPass};
+ghost use Rattle.session.specs.Answers.{start_said};
+ghost use Rattle.calls.specs.Law.{Starts, standing};
+ghost use Rattle.calls.specs.Said.{by_start};
 ghost use Rattle.calls.specs.Loans.{SameLoan};
 ghost use Rattle.clients.specs.Commands.{CommandsIn};
 
@@ -13,16 +16,16 @@ use session::refusal::StartRefusal;
 use travel::travel::Travel;
 
 // After a start that is accepted no step is refused, however many there are. Each position that a step commands lies in the travel.
+// The answers of the calls before it come first, since what they leave decides on the start.
 pub fn step_on<T: Travel + Drop, C: Calls>(
     travel: T,
     list: &mut Then<C, Then<Start, Tape<Step>>>,
-) -> Result<(), StartRefusal>
-where
-    C::Answers: Drop,
+) -> (C::Answers, Result<(), StartRefusal>)
+    ensures begun { Starts (standing (T.origin travel) (reverse (C.events list.old.first list.new.first result.0))) list.old.rest.first.values (by_start (start_said result.1)) }
     ensures loan { SameLoan list.old.rest.rest.answers list.new.rest.rest.answers }
-    ensures accepted { (IsOk result → AllPass is_ok (take (length list.old.rest.rest.calls.now) list.new.rest.rest.answers.now)) }
+    ensures accepted { (IsOk result.1 → AllPass is_ok (take (length list.old.rest.rest.calls.now) list.new.rest.rest.answers.now)) }
     ensures inside { All (CommandsIn (T.region travel)) (take (length list.old.rest.rest.calls.now) list.new.rest.rest.answers.now) }
 {
     let answers = replay(travel, list);
-    answers.1.0
+    (answers.0, answers.1.0)
 }

@@ -1,6 +1,6 @@
 use Rattle.std.proofs.Common.{length}
 use Rattle.calls.specs.Answers.{domain}
-use Rattle.clients.proofs.UnderCertificate.{steps_certified}
+use Rattle.clients.proofs.UnderCertificate.{run_certified}
 use Rattle.clients.proofs.certified.step_certified.Goals as goal
 
 pub returns : goal.returns
@@ -14,4 +14,5 @@ returns g c =
     let by = domain g.D.Domain.lattice g.D.Domain.exact in
     let run = old.rest.rest in
     let ran = new.rest.rest in
-    steps_certified (t.region u) (t.sides u) (t.origin u) by (length old.rest.first.store.now) r.result.1.0 run.first.values r.result.1.1.0 run.rest.calls.now ran.rest.calls.now ran.rest.answers.now r.ensures.stays.1.1.1.0.1 es r.ensures.law
+    let kept = run_certified (t.region u) (t.sides u) (t.origin u) by (length old.rest.first.store.now) r.result.1.0 run.first.values r.result.1.1.0 run.rest.calls.now ran.rest.calls.now ran.rest.answers.now r.ensures.stays.1.1.1.0.1 es r.ensures.law in
+    record { judged = kept.0; inside = kept.1 }
