@@ -29,21 +29,21 @@ pub(crate) fn all_sure<D: Domain>(state: &D, values: &[Option<Value>; AXES]) -> 
     )
 }
 
-fn with_value<D: Domain>(state: D, register: Register, value: Option<Value>) -> D
-    ensures { result ≡ set_one D.lattice register.index value state }
+fn set_axis<D: Domain>(state: &mut D, register: Register, value: Option<Value>)
+    ensures { state.new ≡ set_one D.lattice register.index value state.old }
 {
-    value.map_or(state, |v| state.set(register, v.expression))
+    if let Some(v) = value {
+        state.set(register, v.expression);
+    }
 }
 
 // The axes take those of the values that are there, in register order: a sweep's loops keep their index.
-pub(crate) fn set_axes<D: Domain>(state: D, values: &[Option<Value>; AXES]) -> D
-    ensures { result ≡ set_all D.lattice 0 values.now state }
+pub(crate) fn set_axes<D: Domain>(state: &mut D, values: &[Option<Value>; AXES])
+    ensures { state.new ≡ set_all D.lattice 0 values.now state.old }
 {
-    let mut after = state;
     for (index, value) in values.iter().enumerate() {
-        after = with_value(after, Register { index }, *value);
+        set_axis(state, Register { index }, *value);
     }
-    after
 }
 
 // The lowest side that the state does not show. A sweep goes through the sides in a loop of its own, as it does through axes and lines.

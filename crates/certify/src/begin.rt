@@ -11,22 +11,23 @@ use model::range::Range;
 use model::register::{AXES, PARAMETERS, Register};
 
 // The axis has this number alone.
-fn pinned<D: Domain>(state: D, axis: Axis, n: i32) -> D
-    ensures { result ≡ D.lattice.narrow state (axis_register axis) (single n) }
+fn pin<D: Domain>(state: &mut D, axis: Axis, n: i32)
+    ensures { state.new ≡ D.lattice.narrow state.old (axis_register axis) (single n) }
 {
-    state.narrow(axis.into(), Range::single(n))
+    state.narrow(axis.into(), Range::single(n));
 }
 
 // The axes at home, and each parameter in its allowed range. The loop keeps its index, for a register is made of its number.
 pub(crate) fn begin<D: Domain>(home: Position, allowed: &[Range; PARAMETERS]) -> D
     ensures { result ≡ start D.lattice home allowed.now }
 {
-    let x = pinned(D::any(), Axis::X, home.x);
-    let y = pinned(x, Axis::Y, home.y);
-    let z = pinned(y, Axis::Z, home.z);
-    let mut state = pinned(z, Axis::U, home.u);
+    let mut state = D::any();
+    pin(&mut state, Axis::X, home.x);
+    pin(&mut state, Axis::Y, home.y);
+    pin(&mut state, Axis::Z, home.z);
+    pin(&mut state, Axis::U, home.u);
     for (k, range) in allowed.iter().enumerate() {
-        state = state.narrow(Register { index: AXES + k }, *range);
+        state.narrow(Register { index: AXES + k }, *range);
     }
     state
 }

@@ -37,7 +37,7 @@ fn sweep_once<D: Domain, T: Travel>(
         hulls: [None; AXES],
     };
     for line in program.lines() {
-        pass = step(program, travel, store, pass, *line);
+        step(program, travel, store, &mut pass, line);
     }
     pass
 }

@@ -6,7 +6,7 @@ ghost use Rattle.model.specs.Values.{register};
 ghost use Rattle.program.specs.Held.{held};
 ghost use Rattle.sweep.specs.Blocks.{blocks};
 ghost use Rattle.sweep.specs.Sweeps.{first, failure, broken, all_sure, set_all, hulls_with, came, keeping, line_step};
-ghost use Rattle.certify.specs.Passes.{flowing, sweeping, onward};
+ghost use Rattle.certify.specs.Passes.{flowing, sweeping, onward, judged};
 
 use crate::axes::{all_sure, hulls_with, lowest_unshown, set_axes};
 use crate::pass::Pass;
@@ -21,112 +21,73 @@ use program::table::Program;
 use travel::travel::Travel;
 
 // The first failure stays.
-fn first_failure<D: Domain>(pass: &Pass<D>, cause: Option<Cause>) -> Option<Failure>
-    ensures { result ≡ first pass.now.failing (failure pass.now.line cause) }
+fn judge_line<D: Domain>(pass: &mut Pass<D>, cause: Option<Cause>)
+    ensures { pass.new ≡ judged pass.old cause }
 {
     let line = pass.line;
-    pass.failing.or(cause.map(|cause| Failure { line, cause }))
+    pass.failing = pass.failing.or(cause.map(|cause| Failure { line, cause }));
 }
 
-// Only what meets the condition goes on.
-fn kept<D: Domain>(pass: Pass<D>, condition: Condition) -> Pass<D>
-    ensures { result ≡ onward pass (D.lattice.keep pass.current condition) }
+fn set_parameter<D: Domain>(pass: &mut Pass<D>, parameter: Parameter, value: Value)
+    ensures { pass.new ≡ onward (judged pass.old (if D.lattice.sure pass.old.current value.expression then None else Some Cause.Arithmetic)) (D.lattice.set pass.old.current (register parameter) value.expression) }
 {
-    Pass {
-        current: pass.current.keep(condition),
-        ..pass
-    }
+    let sure = pass.current.sure(value.expression);
+    judge_line(pass, (!sure).then_some(Cause::Arithmetic));
+    pass.current.set(parameter.into(), value.expression);
 }
 
-fn set_parameter<D: Domain>(pass: Pass<D>, parameter: Parameter, value: Value) -> Pass<D>
-    ensures current { result.current ≡ D.lattice.set pass.current (register parameter) value.expression }
-    ensures changed { result.changed ≡ pass.changed }
-    ensures failing { result.failing ≡ first pass.failing (failure pass.line (if D.lattice.sure pass.current value.expression then None else Some Cause.Arithmetic)) }
-    ensures line { result.line ≡ pass.line }
-    ensures hulls { result.hulls ≡ pass.hulls }
+// Arithmetic is judged before travel, at the state before the move.
+fn cause_of_move<D: Domain, T: Travel>(sure: bool, after: &D, travel: &T) -> Option<Cause>
+    ensures { result ≡ (if sure then broken (lowest (D.lattice.shows after.now) 0 (T.sides travel.now)) else Some Cause.Arithmetic) }
 {
-    let cause = (!pass.current.sure(value.expression)).then_some(Cause::Arithmetic);
-    Pass {
-        current: pass.current.set(parameter.into(), value.expression),
-        failing: first_failure(&pass, cause),
-        ..pass
-    }
-}
-
-// Arithmetic is judged before travel.
-fn cause_of_move<D: Domain, T: Travel>(
-    before: &D,
-    after: &D,
-    travel: &T,
-    values: &[Option<Value>; AXES],
-) -> Option<Cause>
-    ensures { result ≡ (if all_sure D.lattice before.now values.now then broken (lowest (D.lattice.shows after.now) 0 (T.sides travel.now)) else Some Cause.Arithmetic) }
-{
-    if !all_sure(before, values) {
+    if !sure {
         return Some(Cause::Arithmetic);
     }
     lowest_unshown(after, travel).map(Cause::Travel)
 }
 
-fn move_axes<D: Domain, T: Travel>(
-    pass: Pass<D>,
-    travel: &T,
-    values: &[Option<Value>; AXES],
-) -> Pass<D>
-    ensures current { result.current ≡ set_all D.lattice 0 values.now pass.current }
-    ensures changed { result.changed ≡ pass.changed }
-    ensures failing { result.failing ≡ first pass.failing (failure pass.line (if all_sure D.lattice pass.current values.now then broken (lowest (D.lattice.shows result.current) 0 (T.sides travel.now)) else Some Cause.Arithmetic)) }
-    ensures line { result.line ≡ pass.line }
-    ensures hulls { result.hulls ≡ hulls_with D.lattice 0 result.current pass.hulls }
+fn move_axes<D: Domain, T: Travel>(pass: &mut Pass<D>, travel: &T, values: &[Option<Value>; AXES])
+    ensures current { pass.new.current ≡ set_all D.lattice 0 values.now pass.old.current }
+    ensures changed { pass.new.changed ≡ pass.old.changed }
+    ensures failing { pass.new.failing ≡ first pass.old.failing (failure pass.old.line (if all_sure D.lattice pass.old.current values.now then broken (lowest (D.lattice.shows pass.new.current) 0 (T.sides travel.now)) else Some Cause.Arithmetic)) }
+    ensures line { pass.new.line ≡ pass.old.line }
+    ensures hulls { pass.new.hulls ≡ hulls_with D.lattice 0 pass.new.current pass.old.hulls }
 {
-    let current = set_axes(pass.current, values);
-    let cause = cause_of_move(&pass.current, &current, travel, values);
-    Pass {
-        current,
-        failing: first_failure(&pass, cause),
-        hulls: hulls_with(&current, pass.hulls),
-        ..pass
-    }
+    let sure = all_sure(&pass.current, values);
+    set_axes(&mut pass.current, values);
+    let cause = cause_of_move(sure, &pass.current, travel);
+    judge_line(pass, cause);
+    pass.hulls = hulls_with(&pass.current, pass.hulls);
 }
 
 // A loop's line: its state goes on, as far as it meets the condition.
-fn pass_loop<D: Domain>(
-    store: &mut [D],
-    place: usize,
-    pass: Pass<D>,
-    condition: Condition,
-) -> Pass<D>
-    ensures flow { flowing store.new result ≡ keeping D.lattice condition (came D.lattice place (flowing store.old pass)) }
-    ensures failing { result.failing ≡ pass.failing }
-    ensures line { result.line ≡ pass.line }
-    ensures hulls { result.hulls ≡ pass.hulls }
+fn pass_loop<D: Domain>(store: &mut [D], place: usize, pass: &mut Pass<D>, condition: Condition)
+    ensures flow { flowing store.new pass.new ≡ keeping D.lattice condition (came D.lattice place (flowing store.old pass.old)) }
+    ensures failing { pass.new.failing ≡ pass.old.failing }
+    ensures line { pass.new.line ≡ pass.old.line }
+    ensures hulls { pass.new.hulls ≡ pass.old.hulls }
 {
-    let met = come(store, place, pass);
-    kept(met, condition)
+    come(store, place, pass);
+    pass.current.keep(condition);
 }
 
 // What does not meet the condition waits in the store for the end of the branch.
-fn enter_branch<D: Domain>(
-    store: &mut [D],
-    place: usize,
-    pass: Pass<D>,
-    condition: Condition,
-) -> Pass<D>
-    ensures store { store.new ≡ slice_set store.old place (D.lattice.keep pass.current (opposite condition)) }
-    ensures pass { result ≡ onward pass (D.lattice.keep pass.current condition) }
+fn enter_branch<D: Domain>(store: &mut [D], place: usize, pass: &mut Pass<D>, condition: Condition)
+    ensures store { store.new ≡ slice_set store.old place (D.lattice.keep pass.old.current (opposite condition)) }
+    ensures pass { pass.new ≡ onward pass.old (D.lattice.keep pass.old.current condition) }
 {
-    put(store, place, pass.current.keep(opposite_of(condition)));
-    kept(pass, condition)
+    let mut skipped = pass.current;
+    skipped.keep(opposite_of(condition));
+    put(store, place, skipped);
+    pass.current.keep(condition);
 }
 
-fn leave_branch<D: Domain>(store: &[D], place: usize, pass: Pass<D>) -> Pass<D>
-    ensures { result ≡ onward pass (D.lattice.join (slice_index_or store.now place D.lattice.none) pass.current) }
+fn leave_branch<D: Domain>(store: &[D], place: usize, pass: &mut Pass<D>)
+    ensures { pass.new ≡ onward pass.old (D.lattice.join (slice_index_or store.now place D.lattice.none) pass.old.current) }
 {
-    let skipped = stored(store, place);
-    Pass {
-        current: skipped.join(&pass.current),
-        ..pass
-    }
+    let mut joined = stored(store, place);
+    joined.join(&pass.current);
+    pass.current = joined;
 }
 
 // The next line.
@@ -134,36 +95,27 @@ pub(crate) fn step<D: Domain, T: Travel>(
     program: &Program,
     travel: &T,
     store: &mut [D],
-    pass: Pass<D>,
-    line: Line,
-) -> Pass<D>
-    requires { suc pass.line < 2 ^ 64 }
-    ensures { sweeping store.new result ≡ line_step D.lattice (blocks (held program.now)) (T.sides travel.now) (sweeping store.old pass) line }
+    pass: &mut Pass<D>,
+    line: &Line,
+)
+    requires { suc pass.old.line < 2 ^ 64 }
+    ensures { sweeping store.new pass.new ≡ line_step D.lattice (blocks (held program.now)) (T.sides travel.now) (sweeping store.old pass.old) line.now }
 {
-    let after = match line {
-        Line::Plain => pass,
+    match *line {
+        Line::Plain => {}
         Line::Setting { parameter, value } => set_parameter(pass, parameter, value),
         Line::Move { x, y, z, u, .. } => move_axes(pass, travel, &[x, y, z, u]),
-        Line::While { label, condition } => pass_loop(
-            store,
-            place(program, label),
-            pass,
-            condition,
-        ),
+        Line::While { label, condition } => {
+            pass_loop(store, place(program, label), pass, condition);
+        }
         Line::EndWhile { label } => {
             let opposite = opposite_of(condition_of(program, label));
-            pass_loop(store, place(program, label), pass, opposite)
+            pass_loop(store, place(program, label), pass, opposite);
         }
-        Line::If { label, condition } => enter_branch(
-            store,
-            place(program, label),
-            pass,
-            condition,
-        ),
+        Line::If { label, condition } => {
+            enter_branch(store, place(program, label), pass, condition);
+        }
         Line::EndIf { label } => leave_branch(store, place(program, label), pass),
-    };
-    Pass {
-        line: pass.line + 1,
-        ..after
     }
+    pass.line += 1;
 }

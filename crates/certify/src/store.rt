@@ -47,26 +47,19 @@ pub(crate) fn put<D: Domain>(store: &mut [D], place: usize, state: D)
 }
 
 // The current state comes to a loop's state, and goes on as that.
-pub(crate) fn come<D: Domain>(store: &mut [D], place: usize, pass: Pass<D>) -> Pass<D>
-    ensures flow { flowing store.new result ≡ came D.lattice place (flowing store.old pass) }
-    ensures failing { result.failing ≡ pass.failing }
-    ensures line { result.line ≡ pass.line }
-    ensures hulls { result.hulls ≡ pass.hulls }
+pub(crate) fn come<D: Domain>(store: &mut [D], place: usize, pass: &mut Pass<D>)
+    ensures flow { flowing store.new pass.new ≡ came D.lattice place (flowing store.old pass.old) }
+    ensures failing { pass.new.failing ≡ pass.old.failing }
+    ensures line { pass.new.line ≡ pass.old.line }
+    ensures hulls { pass.new.hulls ≡ pass.old.hulls }
 {
-    let old = stored(store, place);
-    if pass.current.within(&old) {
-        return Pass {
-            current: old,
-            ..pass
-        };
+    let mut state = stored(store, place);
+    if !pass.current.within(&state) {
+        state.widen(&pass.current);
+        put(store, place, state);
+        pass.changed = true;
     }
-    let grown = old.widen(&pass.current);
-    put(store, place, grown);
-    Pass {
-        current: grown,
-        changed: true,
-        ..pass
-    }
+    pass.current = state;
 }
 
 // No environment at any block.

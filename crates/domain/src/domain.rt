@@ -10,7 +10,8 @@ use model::range::Range;
 use model::register::Register;
 use model::side::Side;
 
-// A state means a set of environments; each operation is that of the lattice, and the laws tie them to the meaning.
+// A state means a set of environments; each operation is that of the lattice, and the laws tie them to the meaning. What makes a new
+// state of an old one works in place, for a state is large.
 pub trait Domain: Copy {
     // The rank of none modulo 2^64.
     const NONE_RANK: u64;
@@ -33,20 +34,20 @@ pub trait Domain: Copy {
     fn none() -> Self
         ensures { result ≡ lattice.none };
 
-    fn narrow(&self, register: Register, range: Range) -> Self
-        ensures { result ≡ lattice.narrow self.now register.index range };
+    fn narrow(&mut self, register: Register, range: Range)
+        ensures { self.new ≡ lattice.narrow self.old register.index range };
 
-    fn keep(&self, condition: Condition) -> Self
-        ensures { result ≡ lattice.keep self.now condition };
+    fn keep(&mut self, condition: Condition)
+        ensures { self.new ≡ lattice.keep self.old condition };
 
-    fn set(&self, register: Register, expression: Expression) -> Self
-        ensures { result ≡ lattice.set self.now register.index expression };
+    fn set(&mut self, register: Register, expression: Expression)
+        ensures { self.new ≡ lattice.set self.old register.index expression };
 
-    fn join(&self, other: &Self) -> Self
-        ensures { result ≡ lattice.join self.now other.now };
+    fn join(&mut self, other: &Self)
+        ensures { self.new ≡ lattice.join self.old other.now };
 
-    fn widen(&self, other: &Self) -> Self
-        ensures { result ≡ lattice.widen self.now other.now };
+    fn widen(&mut self, other: &Self)
+        ensures { self.new ≡ lattice.widen self.old other.now };
 
     fn within(&self, other: &Self) -> bool
         ensures { result ≡ lattice.within self.now other.now };

@@ -22,29 +22,25 @@ pub struct Product<A, B> {
 
 impl<A: Domain, B: Domain> Product<A, B> {
     #[tactic(auto, unfolding(crate::specs::Pairs::reduce_at))]
-    fn reduced_at(self, register: Register) -> Self
-        ensures { result ≡ reduce_at A.Domain.lattice B.Domain.lattice register.index self }
+    fn reduce_at(&mut self, register: Register)
+        ensures { self.new ≡ reduce_at A.Domain.lattice B.Domain.lattice register.index self.old }
     {
         let seen = self.first.range(register, FULL);
         let common = self.second.range(register, seen);
         let outcome = self.first.range(register, common);
-        Product {
-            first: self.first.narrow(register, outcome),
-            second: self.second.narrow(register, outcome),
-        }
+        self.first.narrow(register, outcome);
+        self.second.narrow(register, outcome);
     }
 
     // Each side learns, register by register, what the other knows.
     #[tactic(auto, unfolding(crate::specs::Pairs::reduce))]
-    fn reduced(self) -> Self
-        ensures { result ≡ reduce A.Domain.lattice B.Domain.lattice registers self }
+    fn reduce(&mut self)
+        ensures { self.new ≡ reduce A.Domain.lattice B.Domain.lattice registers self.old }
     {
-        let mut state = self;
         // A register is made of its number.
         for index in 0..REGISTERS {
-            state = state.reduced_at(Register { index });
+            self.reduce_at(Register { index });
         }
-        state
     }
 }
 
@@ -85,42 +81,32 @@ impl<A: Domain, B: Domain> Domain for Product<A, B> {
         }
     }
 
-    fn narrow(&self, register: Register, range: Range) -> Self {
-        let both = Product {
-            first: self.first.narrow(register, range),
-            second: self.second.narrow(register, range),
-        };
-        both.reduced()
+    fn narrow(&mut self, register: Register, range: Range) {
+        self.first.narrow(register, range);
+        self.second.narrow(register, range);
+        self.reduce();
     }
 
-    fn keep(&self, condition: Condition) -> Self {
-        let both = Product {
-            first: self.first.keep(condition),
-            second: self.second.keep(condition),
-        };
-        both.reduced()
+    fn keep(&mut self, condition: Condition) {
+        self.first.keep(condition);
+        self.second.keep(condition);
+        self.reduce();
     }
 
-    fn set(&self, register: Register, expression: Expression) -> Self {
-        let both = Product {
-            first: self.first.set(register, expression),
-            second: self.second.set(register, expression),
-        };
-        both.reduced()
+    fn set(&mut self, register: Register, expression: Expression) {
+        self.first.set(register, expression);
+        self.second.set(register, expression);
+        self.reduce();
     }
 
-    fn join(&self, other: &Self) -> Self {
-        Product {
-            first: self.first.join(&other.first),
-            second: self.second.join(&other.second),
-        }
+    fn join(&mut self, other: &Self) {
+        self.first.join(&other.first);
+        self.second.join(&other.second);
     }
 
-    fn widen(&self, other: &Self) -> Self {
-        Product {
-            first: self.first.widen(&other.first),
-            second: self.second.widen(&other.second),
-        }
+    fn widen(&mut self, other: &Self) {
+        self.first.widen(&other.first);
+        self.second.widen(&other.second);
     }
 
     fn within(&self, other: &Self) -> bool {

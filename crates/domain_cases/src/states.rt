@@ -5,6 +5,7 @@ use fickle::fickle::Fickle;
 use model::expression::{Condition, Expression, LIMIT, Op, Parameter, Rel, Term};
 use model::line::Axis;
 use model::range::{EMPTY, FULL, Range};
+use model::register::Register;
 use model::side::{Factor, Side, Sign};
 use pointwise::kinds::{Congruences, Intervals};
 use std::process::Abort;
@@ -25,6 +26,13 @@ fn check_range(rt: &impl Abort, found: Range, lo: i32, hi: i32) {
     assert!(rt; found == Range { lo, hi });
 }
 
+// Any environment whose register lies in the range.
+fn narrowed<D: Domain>(register: Register, range: Range) -> D {
+    let mut state = D::any();
+    state.narrow(register, range);
+    state
+}
+
 // One above what all sets of a state can be widened together; a product's is the sum of its sides'.
 #[test]
 fn ranks_of_none(rt: HostRuntime) {
@@ -39,16 +47,15 @@ fn ranks_of_none(rt: HostRuntime) {
 
 // 4 joined with 10, kept above 4: what is left of #1.
 fn above_four<D: Domain>() -> Range {
-    let four = D::any().narrow(Parameter::P1.into(), Range::single(4));
-    let ten = D::any().narrow(Parameter::P1.into(), Range::single(10));
+    let mut state = narrowed::<D>(Parameter::P1.into(), Range::single(4));
     let condition = Condition {
         rel: Rel::Gt,
         left: FIRST,
         right: Term::Number(4),
     };
-    four.join(&ten)
-        .keep(condition)
-        .range(Parameter::P1.into(), FULL)
+    state.join(&narrowed(Parameter::P1.into(), Range::single(10)));
+    state.keep(condition);
+    state.range(Parameter::P1.into(), FULL)
 }
 
 #[test]
@@ -64,10 +71,11 @@ fn each_side_learns_from_the_other(rt: HostRuntime) {
 
 // X after #1 in 0..4 was widened by 1..5 and X is set to #1 times 500.
 fn widened_rows<D: Domain>() -> D {
-    let old = D::any().narrow(Parameter::P1.into(), Range { lo: 0, hi: 4 });
-    let new = D::any().narrow(Parameter::P1.into(), Range { lo: 1, hi: 5 });
+    let mut state = narrowed::<D>(Parameter::P1.into(), Range { lo: 0, hi: 4 });
+    state.widen(&narrowed(Parameter::P1.into(), Range { lo: 1, hi: 5 }));
     let row = Expression::Apply(Op::Mul, FIRST, Term::Number(500));
-    old.widen(&new).set(Axis::X.into(), row)
+    state.set(Axis::X.into(), row);
+    state
 }
 
 #[test]
@@ -100,15 +108,11 @@ fn a_product_is_cut_to_the_limit(rt: HostRuntime) {
 
 fn is_sure<D: Domain>() -> bool {
     let next = Expression::Apply(Op::Add, FIRST, Term::Number(1));
-    D::any()
-        .narrow(
-            Parameter::P1.into(),
-            Range {
-                lo: 0,
-                hi: LIMIT - 1,
-            },
-        )
-        .sure(next)
+    let below = Range {
+        lo: 0,
+        hi: LIMIT - 1,
+    };
+    narrowed::<D>(Parameter::P1.into(), below).sure(next)
 }
 
 // X ≤ 9, for X in 0..9.
@@ -120,9 +124,7 @@ fn shows_nine<D: Domain>() -> bool {
         w: Axis::Y,
         c: 9,
     };
-    D::any()
-        .narrow(Axis::X.into(), Range { lo: 0, hi: 9 })
-        .shows(side)
+    narrowed::<D>(Axis::X.into(), Range { lo: 0, hi: 9 }).shows(side)
 }
 
 #[test]
@@ -139,10 +141,9 @@ fn compared_with_itself<D: Domain>(rel: Rel) -> Range {
         left: FIRST,
         right: FIRST,
     };
-    D::any()
-        .narrow(Parameter::P1.into(), Range { lo: 0, hi: 9 })
-        .keep(condition)
-        .range(Parameter::P1.into(), FULL)
+    let mut state = narrowed::<D>(Parameter::P1.into(), Range { lo: 0, hi: 9 });
+    state.keep(condition);
+    state.range(Parameter::P1.into(), FULL)
 }
 
 // Both cuts are made from what the register was.
@@ -158,26 +159,14 @@ fn a_register_on_both_sides(rt: HostRuntime) {
     );
 }
 
+fn is_none_where_empty<D: Domain>() -> bool {
+    narrowed::<D>(Axis::U.into(), EMPTY).within(&D::none())
+}
+
 #[test]
 fn narrowing_to_an_empty_range_leaves_none(rt: HostRuntime) {
-    assert!(rt;
-        Intervals::any()
-            .narrow(Axis::U.into(), EMPTY)
-            .within(&Intervals::none())
-    );
-    assert!(rt;
-        Congruences::any()
-            .narrow(Axis::U.into(), EMPTY)
-            .within(&Congruences::none())
-    );
-    assert!(rt;
-        Both::any()
-            .narrow(Axis::U.into(), EMPTY)
-            .within(&Both::none())
-    );
-    assert!(rt;
-        !Behind::any()
-            .narrow(Axis::U.into(), EMPTY)
-            .within(&Behind::none())
-    );
+    assert!(rt; is_none_where_empty::<Intervals>());
+    assert!(rt; is_none_where_empty::<Congruences>());
+    assert!(rt; is_none_where_empty::<Both>());
+    assert!(rt; !is_none_where_empty::<Behind>());
 }

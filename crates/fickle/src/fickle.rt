@@ -54,38 +54,36 @@ impl Domain for Fickle {
         Fickle::None
     }
 
-    fn narrow(&self, _register: Register, _range: Range) -> Self {
-        match self {
+    fn narrow(&mut self, _register: Register, _range: Range) {
+        *self = match self {
             Fickle::None => Fickle::None,
             Fickle::Fresh => Fickle::Stale,
             Fickle::Stale => Fickle::Fresh,
-        }
+        };
     }
 
-    fn keep(&self, _condition: Condition) -> Self {
-        *self
-    }
+    fn keep(&mut self, _condition: Condition) {}
 
-    fn set(&self, _register: Register, _expression: Expression) -> Self {
-        match self {
+    fn set(&mut self, _register: Register, _expression: Expression) {
+        *self = match self {
             Fickle::None => Fickle::None,
             Fickle::Fresh | Fickle::Stale => Fickle::Fresh,
-        }
+        };
     }
 
-    fn join(&self, other: &Self) -> Self {
-        match (self, other) {
+    fn join(&mut self, other: &Self) {
+        *self = match (&*self, other) {
             (Fickle::None, Fickle::None) => Fickle::None,
             _ => Fickle::Stale,
-        }
+        };
     }
 
-    fn widen(&self, other: &Self) -> Self {
-        match (self, other) {
+    fn widen(&mut self, other: &Self) {
+        *self = match (&*self, other) {
             (Fickle::None, _) => *other,
             (Fickle::Fresh, Fickle::Stale) => Fickle::Stale,
-            _ => *self,
-        }
+            (Fickle::Fresh | Fickle::Stale, _) => *self,
+        };
     }
 
     fn within(&self, other: &Self) -> bool {

@@ -11,16 +11,10 @@ use number_sets::sets::NumberSet;
 use std::array;
 
 #[tactic(auto, using(crate::proofs::Loops::set_changed))]
-pub(crate) fn changed<V: NumberSet>(
-    sets: &[V; REGISTERS],
-    register: Register,
-    set: V,
-) -> [V; REGISTERS]
-    ensures { result ≡ changed V.NumberSet.sets registers sets.now register.index set }
+pub(crate) fn change<V: NumberSet>(sets: &mut [V; REGISTERS], register: Register, set: V)
+    ensures { sets.new ≡ changed V.NumberSet.sets registers sets.old register.index set }
 {
-    let mut after = *sets;
-    after[register.index] = set;
-    after
+    sets[register.index] = set;
 }
 
 // The numbers that a term may have.

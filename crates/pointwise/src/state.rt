@@ -1,14 +1,15 @@
 // States that hold one set of numbers for each register.
 ghost use Rattle.std.specs.Prelude.{◌≡◌, ◌+◌, ◌*◌, ◌%◌, ◌^◌, true, Some};
+ghost use Rattle.std.specs.Option.{option_and_then};
 ghost use Rattle.model.specs.Environments.{registers};
-ghost use Rattle.pointwise.specs.States.{put, kept_registers, kept_sides, keep, merged, pointwise};
+ghost use Rattle.pointwise.specs.States.{put, kept_registers, kept_sides, merged, pointwise};
 ghost use Rattle.pointwise.specs.Tables.{Computes};
 ghost use Rattle.pointwise.specs.Tracks.{tracks};
 ghost use Rattle.pointwise.specs.StateLaws.{state_lawful, registers_named, none_ranked};
 ghost use Rattle.pointwise.specs.StateNothing.{state_strict};
 ghost use Rattle.pointwise.specs.StateExact.{state_tracking};
 
-use crate::sets::{all_inside, bounded, changed, pairwise, sure_value, term, value};
+use crate::sets::{all_inside, bounded, change, pairwise, sure_value, term, value};
 use domain::domain::Domain;
 use model::expression::{Condition, Expression, Term};
 use model::range::{EMPTY, Range};
@@ -22,76 +23,61 @@ pub struct Pointwise<V> {
     pub sets: Option<[V; REGISTERS]>,
 }
 
-fn put<V: NumberSet>(
-    sets: &[V; REGISTERS],
-    register: Register,
-    set: Option<V>,
-) -> Option<[V; REGISTERS]>
-    ensures { result ≡ put V.NumberSet.sets registers sets.now register.index set }
+// No number for one register leaves no environment at all.
+fn put<V: NumberSet>(state: &mut Option<[V; REGISTERS]>, register: Register, set: Option<V>)
+    ensures { state.new ≡ option_and_then (λ xs. put V.NumberSet.sets registers xs register.index set) state.old }
 {
-    Some(changed(sets, register, set?))
+    match (&mut *state, set) {
+        (Some(sets), Some(set)) => change(sets, register, set),
+        (_, _) => *state = None,
+    }
 }
 
 // What a condition leaves goes to its two registers; one register on both sides keeps what both leave it.
-fn kept_registers<V: NumberSet>(
-    sets: &[V; REGISTERS],
+fn keep_registers<V: NumberSet>(
+    state: &mut Option<[V; REGISTERS]>,
     left: Register,
     right: Register,
     pair: Pair<V>,
-) -> Option<[V; REGISTERS]>
-    ensures { result ≡ kept_registers V.NumberSet.sets registers sets.now left.index right.index pair }
+)
+    ensures { state.new ≡ option_and_then (λ xs. kept_registers V.NumberSet.sets registers xs left.index right.index pair) state.old }
 {
     if left == right {
-        put(sets, left, pair.left.meet(pair.right))
+        put(state, left, pair.left.meet(pair.right));
     } else {
-        let cut = changed(sets, left, pair.left);
-        Some(changed(&cut, right, pair.right))
+        put(state, left, Some(pair.left));
+        put(state, right, Some(pair.right));
     }
 }
 
 // A number has no register.
-fn kept_sides<V: NumberSet>(
-    sets: &[V; REGISTERS],
+fn keep_sides<V: NumberSet>(
+    state: &mut Option<[V; REGISTERS]>,
     left: Term,
     right: Term,
     pair: Pair<V>,
-) -> Option<[V; REGISTERS]>
-    ensures { result ≡ kept_sides V.NumberSet.sets registers sets.now left right (Some pair) }
+)
+    ensures { state.new ≡ option_and_then (λ xs. kept_sides V.NumberSet.sets registers xs left right (Some pair)) state.old }
 {
     match (left, right) {
-        (Term::Number(_), Term::Number(_)) => Some(*sets),
-        (Term::Parameter(p), Term::Number(_)) => Some(changed(sets, Register::from(p), pair.left)),
-        (Term::Number(_), Term::Parameter(q)) => Some(changed(sets, Register::from(q), pair.right)),
+        (Term::Number(_), Term::Number(_)) => {}
+        (Term::Parameter(p), Term::Number(_)) => put(state, p.into(), Some(pair.left)),
+        (Term::Number(_), Term::Parameter(q)) => put(state, q.into(), Some(pair.right)),
         (Term::Parameter(p), Term::Parameter(q)) => {
-            kept_registers(sets, Register::from(p), Register::from(q), pair)
+            keep_registers(state, p.into(), q.into(), pair);
         }
     }
 }
 
-fn kept<V: NumberSet>(sets: &[V; REGISTERS], condition: Condition) -> Option<[V; REGISTERS]>
-    ensures { result ≡ keep V.NumberSet.sets registers (Some sets.now) condition }
-{
-    let left = term(sets, condition.left);
-    let right = term(sets, condition.right);
-    let pair = left.kept(condition.rel, right)?;
-    kept_sides(sets, condition.left, condition.right, pair)
-}
-
 // Beside no environment the other state stays.
-fn merged<V: NumberSet, F: Fn(V, V) -> V>(
-    left: &Pointwise<V>,
-    right: &Pointwise<V>,
-    f: F,
-) -> Pointwise<V>
+fn merge<V: NumberSet, F: Fn(V, V) -> V>(left: &mut Pointwise<V>, right: &Pointwise<V>, f: F)
     requires { F.IsAlwaysCallable f }
-    ensures { (g : V → V → V) → Computes (F.post f) g → result.sets ≡ merged V.NumberSet.sets registers g left.now.sets right.now.sets }
+    ensures { (g : V → V → V) → Computes (F.post f) g → left.new.sets ≡ merged V.NumberSet.sets registers g left.old.sets right.now.sets }
 {
-    match (&left.sets, &right.sets) {
-        (None, _) => *right,
-        (_, None) => *left,
-        (Some(xs), Some(ys)) => Pointwise {
-            sets: Some(pairwise(xs, ys, f)),
-        },
+    match (&mut left.sets, &right.sets) {
+        (_, None) => {}
+        (None, Some(ys)) => left.sets = Some(*ys),
+        (Some(xs), Some(ys)) => *xs = pairwise(xs, ys, f),
     }
 }
 
@@ -129,39 +115,40 @@ impl<V: NumberSet> Domain for Pointwise<V> {
         Pointwise { sets: None }
     }
 
-    fn narrow(&self, register: Register, range: Range) -> Self {
+    fn narrow(&mut self, register: Register, range: Range) {
         let Some(sets) = &self.sets else {
-            return *self;
+            return;
         };
-        Pointwise {
-            sets: put(sets, register, sets[register.index].narrow(range)),
+        let set = sets[register.index].narrow(range);
+        put(&mut self.sets, register, set);
+    }
+
+    fn keep(&mut self, condition: Condition) {
+        let Some(sets) = &self.sets else {
+            return;
+        };
+        let left = term(sets, condition.left);
+        let right = term(sets, condition.right);
+        match left.kept(condition.rel, right) {
+            Some(pair) => keep_sides(&mut self.sets, condition.left, condition.right, pair),
+            None => self.sets = None,
         }
     }
 
-    fn keep(&self, condition: Condition) -> Self {
+    fn set(&mut self, register: Register, expression: Expression) {
         let Some(sets) = &self.sets else {
-            return *self;
+            return;
         };
-        Pointwise {
-            sets: kept(sets, condition),
-        }
+        let set = value(sets, expression);
+        put(&mut self.sets, register, set);
     }
 
-    fn set(&self, register: Register, expression: Expression) -> Self {
-        let Some(sets) = &self.sets else {
-            return *self;
-        };
-        Pointwise {
-            sets: put(sets, register, value(sets, expression)),
-        }
+    fn join(&mut self, other: &Self) {
+        merge(self, other, V::hull);
     }
 
-    fn join(&self, other: &Self) -> Self {
-        merged(self, other, V::hull)
-    }
-
-    fn widen(&self, other: &Self) -> Self {
-        merged(self, other, V::widen)
+    fn widen(&mut self, other: &Self) {
+        merge(self, other, V::widen);
     }
 
     fn within(&self, other: &Self) -> bool {

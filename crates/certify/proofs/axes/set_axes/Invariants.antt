@@ -4,4 +4,4 @@ use Rattle.certify.proofs.axes.set_axes.Given as goal
 
 abbrev pub invariant-loop-index : goal.invariant-loop-index
 invariant-loop-index g l =
-    set_all g.D.Domain.lattice 0 l.values l.initial.after ≡ set_all g.D.Domain.lattice l.index (drop l.index l.values) l.after
+    set_all g.D.Domain.lattice 0 l.values l.initial.state ≡ set_all g.D.Domain.lattice l.index (drop l.index l.values) l.state
