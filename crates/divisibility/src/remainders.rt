@@ -9,7 +9,12 @@ pub fn remainder(z: i64, m: u64) -> i64
     ensures low { pos 0 ≤ℤ result }
     ensures high { result <ℤ pos m }
 {
-    z.rem_euclid(m as i64)
+    // A division is slow, and most registers are known by the modulus 1 alone.
+    if m == 1 {
+        0
+    } else {
+        z.rem_euclid(m as i64)
+    }
 }
 
 // Whether n divides m; 0 divides 0 alone.

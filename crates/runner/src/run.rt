@@ -1,5 +1,5 @@
 // A run: the line it stands at, and its registers.
-ghost use Rattle.std.specs.Prelude.{◌≡◌, ◌<◌, length, if◌then◌else◌, OnSome};
+ghost use Rattle.std.specs.Prelude.{◌≡◌, ◌<◌, length, if◌then◌else◌, Some};
 ghost use Rattle.std.specs.Option.{unwrap_or};
 ghost use Rattle.model.specs.Blocks.{block_of};
 ghost use Rattle.model.specs.Environments.{position};
@@ -9,7 +9,7 @@ ghost use Rattle.model.specs.Values.{holds};
 ghost use Rattle.program.specs.Held.{held};
 ghost use Rattle.runner.specs.Drying.{start, number, is_past};
 ghost use Rattle.runner.specs.Plain.{no_run, run_at, PlainStep};
-ghost use Rattle.runner.specs.Steps.{worked, set_if, line_at, line_under, behind, first, went, gone, commanded, step_of};
+ghost use Rattle.runner.specs.Steps.{worked, set_if, over, behind, first, went, gone, commanded, step_of};
 
 use crate::value::{meets, value};
 use model::axes::{Axes, Position};
@@ -35,12 +35,12 @@ pub enum Stepped {
 }
 
 // The result that a value gives, if there is a value; none at all where it faults. A Result would need an error that says nothing.
-fn worked(registers: &[i32; REGISTERS], v: Option<Value>) -> Option<Option<i32>>
-    ensures { result ≡ worked registers.now v }
+fn worked(registers: &[i32; REGISTERS], v: &Option<Value>) -> Option<Option<i32>>
+    ensures { result ≡ worked registers.now v.now }
 {
     match v {
         None => Some(None),
-        Some(v) => Some(Some(value(registers, v)?)),
+        Some(v) => Some(Some(value(registers, *v)?)),
     }
 }
 
@@ -58,13 +58,6 @@ fn first(program: &Program, label: u16) -> usize
         .block(label)
         .map(|block| block.first.saturating_sub(1));
     first.unwrap_or(program.lines().len())
-}
-
-fn line_at(program: &Program, n: usize) -> Option<Line>
-    ensures is { result ≡ line_at (held program.now) n }
-    ensures within { OnSome result (n < length (held program.now)) }
-{
-    program.lines().get(n).copied()
 }
 
 impl Run {
@@ -113,12 +106,6 @@ impl Run {
         [x, y, z, u].into()
     }
 
-    fn line_under(&self, program: &Program) -> Option<Line>
-        ensures { result ≡ line_under (held program.now) self.now.at }
-    {
-        line_at(program, self.at?)
-    }
-
     // Gives the axis its result, if there is one.
     fn put(&mut self, axis: Axis, x: Option<i32>)
         ensures { self.new ≡ record { at = self.old.at; registers = set_if self.old.registers (axis_register axis) x } }
@@ -147,35 +134,32 @@ impl Run {
     }
 
     // A block line leads on where its condition holds, else behind its block.
-    fn turn(&mut self, program: &Program, next: usize, label: u16, condition: Condition) -> Stepped
-        ensures { gone self.new result ≡ went Stepped.WentOn (if holds self.old.registers condition then next else behind (length (held program.now)) (block_of (held program.now) label)) self.old.registers }
+    fn turn(&mut self, program: &Program, next: usize, label: u16, condition: &Condition) -> Stepped
+        ensures { gone self.new result ≡ went Stepped.WentOn (if holds self.old.registers condition.now then next else behind (length (held program.now)) (block_of (held program.now) label)) self.old.registers }
     {
-        if meets(&self.registers, condition) {
+        if meets(&self.registers, *condition) {
             self.go(next)
         } else {
             self.go(behind(program, label))
         }
     }
 
-    // What a step answers, or none where a value faults.
-    fn advance(&mut self, program: &Program) -> Option<Stepped>
-        ensures { gone self.new (unwrap_or result Stepped.Fault) ≡ step_of (held program.now) self.old }
+    // What the step over the line at n answers, or none where a value faults.
+    fn cross(&mut self, program: &Program, n: usize, line: &Line) -> Option<Stepped>
+        requires at { self.old.at ≡ Some n }
+        requires within { n < length (held program.now) }
+        ensures { gone self.new (unwrap_or result Stepped.Fault) ≡ over (held program.now) n self.old.registers (Some line.now) }
     {
-        let answer = match (self.at, self.line_under(program)) {
-            (Some(n), Some(Line::Plain | Line::EndIf { .. })) => self.go(n + 1),
-            (
-                Some(n),
-                Some(
-                    Line::Setting {
-                        parameter,
-                        value: v,
-                    },
-                ),
-            ) => {
-                self.registers[Register::from(parameter).index] = value(&self.registers, v)?;
+        let answer = match line {
+            Line::Plain | Line::EndIf { .. } => self.go(n + 1),
+            Line::Setting {
+                parameter,
+                value: v,
+            } => {
+                self.registers[Register::from(*parameter).index] = value(&self.registers, *v)?;
                 self.go(n + 1)
             }
-            (Some(n), Some(Line::Move { x, y, z, u, .. })) => {
+            Line::Move { x, y, z, u, .. } => {
                 let to = Axes {
                     x: worked(&self.registers, x)?,
                     y: worked(&self.registers, y)?,
@@ -185,14 +169,9 @@ impl Run {
                 self.travel(n + 1, to)
             }
             // Tried: one arm for both kinds leaves the proof without which line it is.
-            (Some(n), Some(Line::While { label, condition })) => {
-                self.turn(program, n + 1, label, condition)
-            }
-            (Some(n), Some(Line::If { label, condition })) => {
-                self.turn(program, n + 1, label, condition)
-            }
-            (Some(_), Some(Line::EndWhile { label })) => self.go(first(program, label)),
-            (_, _) => Stepped::Ended,
+            Line::While { label, condition } => self.turn(program, n + 1, *label, condition),
+            Line::If { label, condition } => self.turn(program, n + 1, *label, condition),
+            Line::EndWhile { label } => self.go(first(program, *label)),
         };
         Some(answer)
     }
@@ -202,6 +181,12 @@ impl Run {
         ensures is { gone self.new result ≡ step_of (held program.now) self.old }
         ensures plain { Closed (held program.now) → PlainStep (held program.now) self.old result self.new }
     {
-        self.advance(program).unwrap_or(Stepped::Fault)
+        let Some(n) = self.at else {
+            return Stepped::Ended;
+        };
+        let Some(line) = program.lines().get(n) else {
+            return Stepped::Ended;
+        };
+        self.cross(program, n, line).unwrap_or(Stepped::Fault)
     }
 }

@@ -5,7 +5,7 @@ ghost use Rattle.intervals.specs.Ranges.{as_range};
 ghost use Rattle.intervals.specs.Laws.{intervals_lawful, intervals_exact};
 
 use crate::interval::Interval;
-use crate::interval::spans::{made, widened_down, widened_up};
+use crate::interval::spans::{ordered, widened_down, widened_up};
 use model::expression::{LIMIT, Op, Rel};
 use model::range::{EMPTY, Range};
 use model::side::{Factor, Sign};
@@ -68,11 +68,11 @@ impl NumberSet for Interval {
     }
 
     fn meet(self, other: Self) -> Option<Self> {
-        made(self.lo.max(other.lo), self.hi.min(other.hi))
+        ordered(self.lo.max(other.lo), self.hi.min(other.hi))
     }
 
     fn narrow(self, range: Range) -> Option<Self> {
-        made(self.lo.max(range.lo as i64), self.hi.min(range.hi as i64))
+        ordered(self.lo.max(range.lo as i64), self.hi.min(range.hi as i64))
     }
 
     fn hull(self, other: Self) -> Self {

@@ -1,10 +1,23 @@
 // Intervals from their ends.
-ghost use Rattle.std.specs.Prelude.{◌≡◌, int_lt};
+ghost use Rattle.std.specs.Prelude.{◌≡◌, int_lt, pos, neg_ℤ, ◌≤ℤ◌};
+ghost use Rattle.model.specs.Limits.{limit};
 ghost use Rattle.intervals.specs.Made.{made};
 ghost use Rattle.intervals.specs.Widening.{down_to, up_to};
 
 use crate::interval::Interval;
 use model::expression::LIMIT;
+
+// lo..hi of ends that keep to the limit, or none where that is empty: what narrows an interval needs no other test.
+pub(crate) fn ordered(lo: i64, hi: i64) -> Option<Interval>
+    requires { (neg_ℤ (pos limit) ≤ℤ lo) × (hi ≤ℤ pos limit) }
+    ensures { result ≡ made lo hi }
+{
+    if lo <= hi {
+        Some(Interval { lo, hi })
+    } else {
+        None
+    }
+}
 
 // lo..hi, or none where that is empty or reaches beyond the limit.
 pub(crate) fn made(lo: i64, hi: i64) -> Option<Interval>
