@@ -12,10 +12,13 @@ use std::array;
 use travel::travel::Travel;
 
 // A value that is there does not fault.
-fn is_sure<D: Domain>(state: &D, value: Option<Value>) -> bool
-    ensures { result ≡ sure_one D.lattice state.now value }
+fn is_sure<D: Domain>(state: &D, value: &Option<Value>) -> bool
+    ensures { result ≡ sure_one D.lattice state.now value.now }
 {
-    value.is_none_or(|v| state.sure(v.expression))
+    match value {
+        None => true,
+        Some(v) => state.sure(&v.expression),
+    }
 }
 
 // None of the values faults.
@@ -25,15 +28,15 @@ pub(crate) fn all_sure<D: Domain>(state: &D, values: &[Option<Value>; AXES]) -> 
     values.iter().all(
         |value|
             ensures { result ≡ sure_one D.lattice state.entry.now value.now }
-        { is_sure(state, *value) },
+        { is_sure(state, value) },
     )
 }
 
-fn set_axis<D: Domain>(state: &mut D, register: Register, value: Option<Value>)
-    ensures { state.new ≡ set_one D.lattice register.index value state.old }
+fn set_axis<D: Domain>(state: &mut D, register: Register, value: &Option<Value>)
+    ensures { state.new ≡ set_one D.lattice register.index value.now state.old }
 {
     if let Some(v) = value {
-        state.set(register, v.expression);
+        state.set(register, &v.expression);
     }
 }
 
@@ -42,7 +45,7 @@ pub(crate) fn set_axes<D: Domain>(state: &mut D, values: &[Option<Value>; AXES])
     ensures { state.new ≡ set_all D.lattice 0 values.now state.old }
 {
     for (index, value) in values.iter().enumerate() {
-        set_axis(state, Register { index }, *value);
+        set_axis(state, Register { index }, value);
     }
 }
 

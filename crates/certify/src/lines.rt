@@ -28,12 +28,12 @@ fn judge_line<D: Domain>(pass: &mut Pass<D>, cause: Option<Cause>)
     pass.failing = pass.failing.or(cause.map(|cause| Failure { line, cause }));
 }
 
-fn set_parameter<D: Domain>(pass: &mut Pass<D>, parameter: Parameter, value: Value)
-    ensures { pass.new ≡ onward (judged pass.old (if D.lattice.sure pass.old.current value.expression then None else Some Cause.Arithmetic)) (D.lattice.set pass.old.current (register parameter) value.expression) }
+fn set_parameter<D: Domain>(pass: &mut Pass<D>, parameter: Parameter, value: &Value)
+    ensures { pass.new ≡ onward (judged pass.old (if D.lattice.sure pass.old.current value.now.expression then None else Some Cause.Arithmetic)) (D.lattice.set pass.old.current (register parameter) value.now.expression) }
 {
-    let sure = pass.current.sure(value.expression);
+    let sure = pass.current.sure(&value.expression);
     judge_line(pass, (!sure).then_some(Cause::Arithmetic));
-    pass.current.set(parameter.into(), value.expression);
+    pass.current.set(parameter.into(), &value.expression);
 }
 
 // Arithmetic is judged before travel, at the state before the move.
@@ -61,8 +61,8 @@ fn move_axes<D: Domain, T: Travel>(pass: &mut Pass<D>, travel: &T, values: &[Opt
 }
 
 // A loop's line: its state goes on, as far as it meets the condition.
-fn pass_loop<D: Domain>(store: &mut [D], place: usize, pass: &mut Pass<D>, condition: Condition)
-    ensures flow { flowing store.new pass.new ≡ keeping D.lattice condition (came D.lattice place (flowing store.old pass.old)) }
+fn pass_loop<D: Domain>(store: &mut [D], place: usize, pass: &mut Pass<D>, condition: &Condition)
+    ensures flow { flowing store.new pass.new ≡ keeping D.lattice condition.now (came D.lattice place (flowing store.old pass.old)) }
     ensures failing { pass.new.failing ≡ pass.old.failing }
     ensures line { pass.new.line ≡ pass.old.line }
     ensures hulls { pass.new.hulls ≡ pass.old.hulls }
@@ -72,12 +72,12 @@ fn pass_loop<D: Domain>(store: &mut [D], place: usize, pass: &mut Pass<D>, condi
 }
 
 // What does not meet the condition waits in the store for the end of the branch.
-fn enter_branch<D: Domain>(store: &mut [D], place: usize, pass: &mut Pass<D>, condition: Condition)
-    ensures store { store.new ≡ slice_set store.old place (D.lattice.keep pass.old.current (opposite condition)) }
-    ensures pass { pass.new ≡ onward pass.old (D.lattice.keep pass.old.current condition) }
+fn enter_branch<D: Domain>(store: &mut [D], place: usize, pass: &mut Pass<D>, condition: &Condition)
+    ensures store { store.new ≡ slice_set store.old place (D.lattice.keep pass.old.current (opposite condition.now)) }
+    ensures pass { pass.new ≡ onward pass.old (D.lattice.keep pass.old.current condition.now) }
 {
     let mut skipped = pass.current;
-    skipped.keep(opposite_of(condition));
+    skipped.keep(&opposite_of(*condition));
     put(store, place, skipped);
     pass.current.keep(condition);
 }
@@ -101,21 +101,21 @@ pub(crate) fn step<D: Domain, T: Travel>(
     requires { suc pass.old.line < 2 ^ 64 }
     ensures { sweeping store.new pass.new ≡ line_step D.lattice (blocks (held program.now)) (T.sides travel.now) (sweeping store.old pass.old) line.now }
 {
-    match *line {
+    match line {
         Line::Plain => {}
-        Line::Setting { parameter, value } => set_parameter(pass, parameter, value),
-        Line::Move { x, y, z, u, .. } => move_axes(pass, travel, &[x, y, z, u]),
+        Line::Setting { parameter, value } => set_parameter(pass, *parameter, value),
+        Line::Move { x, y, z, u, .. } => move_axes(pass, travel, &[*x, *y, *z, *u]),
         Line::While { label, condition } => {
-            pass_loop(store, place(program, label), pass, condition);
+            pass_loop(store, place(program, *label), pass, condition);
         }
         Line::EndWhile { label } => {
-            let opposite = opposite_of(condition_of(program, label));
-            pass_loop(store, place(program, label), pass, opposite);
+            let opposite = opposite_of(condition_of(program, *label));
+            pass_loop(store, place(program, *label), pass, &opposite);
         }
         Line::If { label, condition } => {
-            enter_branch(store, place(program, label), pass, condition);
+            enter_branch(store, place(program, *label), pass, condition);
         }
-        Line::EndIf { label } => leave_branch(store, place(program, label), pass),
+        Line::EndIf { label } => leave_branch(store, place(program, *label), pass),
     }
     pass.line += 1;
 }

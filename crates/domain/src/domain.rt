@@ -37,11 +37,11 @@ pub trait Domain: Copy {
     fn narrow(&mut self, register: Register, range: Range)
         ensures { self.new ≡ lattice.narrow self.old register.index range };
 
-    fn keep(&mut self, condition: Condition)
-        ensures { self.new ≡ lattice.keep self.old condition };
+    fn keep(&mut self, condition: &Condition)
+        ensures { self.new ≡ lattice.keep self.old condition.now };
 
-    fn set(&mut self, register: Register, expression: Expression)
-        ensures { self.new ≡ lattice.set self.old register.index expression };
+    fn set(&mut self, register: Register, expression: &Expression)
+        ensures { self.new ≡ lattice.set self.old register.index expression.now };
 
     fn join(&mut self, other: &Self)
         ensures { self.new ≡ lattice.join self.old other.now };
@@ -52,8 +52,8 @@ pub trait Domain: Copy {
     fn within(&self, other: &Self) -> bool
         ensures { result ≡ lattice.within self.now other.now };
 
-    fn sure(&self, expression: Expression) -> bool
-        ensures { result ≡ lattice.sure self.now expression };
+    fn sure(&self, expression: &Expression) -> bool
+        ensures { result ≡ lattice.sure self.now expression.now };
 
     fn shows(&self, side: Side) -> bool
         ensures { result ≡ lattice.shows self.now side };

@@ -87,13 +87,13 @@ impl<A: Domain, B: Domain> Domain for Product<A, B> {
         self.reduce();
     }
 
-    fn keep(&mut self, condition: Condition) {
+    fn keep(&mut self, condition: &Condition) {
         self.first.keep(condition);
         self.second.keep(condition);
         self.reduce();
     }
 
-    fn set(&mut self, register: Register, expression: Expression) {
+    fn set(&mut self, register: Register, expression: &Expression) {
         self.first.set(register, expression);
         self.second.set(register, expression);
         self.reduce();
@@ -113,7 +113,7 @@ impl<A: Domain, B: Domain> Domain for Product<A, B> {
         self.first.within(&other.first) && self.second.within(&other.second)
     }
 
-    fn sure(&self, expression: Expression) -> bool {
+    fn sure(&self, expression: &Expression) -> bool {
         self.first.sure(expression) || self.second.sure(expression)
     }
 

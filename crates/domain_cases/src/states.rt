@@ -54,7 +54,7 @@ fn above_four<D: Domain>() -> Range {
         right: Term::Number(4),
     };
     state.join(&narrowed(Parameter::P1.into(), Range::single(10)));
-    state.keep(condition);
+    state.keep(&condition);
     state.range(Parameter::P1.into(), FULL)
 }
 
@@ -74,7 +74,7 @@ fn widened_rows<D: Domain>() -> D {
     let mut state = narrowed::<D>(Parameter::P1.into(), Range { lo: 0, hi: 4 });
     state.widen(&narrowed(Parameter::P1.into(), Range { lo: 1, hi: 5 }));
     let row = Expression::Apply(Op::Mul, FIRST, Term::Number(500));
-    state.set(Axis::X.into(), row);
+    state.set(Axis::X.into(), &row);
     state
 }
 
@@ -112,7 +112,7 @@ fn is_sure<D: Domain>() -> bool {
         lo: 0,
         hi: LIMIT - 1,
     };
-    narrowed::<D>(Parameter::P1.into(), below).sure(next)
+    narrowed::<D>(Parameter::P1.into(), below).sure(&next)
 }
 
 // X ≤ 9, for X in 0..9.
@@ -142,7 +142,7 @@ fn compared_with_itself<D: Domain>(rel: Rel) -> Range {
         right: FIRST,
     };
     let mut state = narrowed::<D>(Parameter::P1.into(), Range { lo: 0, hi: 9 });
-    state.keep(condition);
+    state.keep(&condition);
     state.range(Parameter::P1.into(), FULL)
 }
 

@@ -62,9 +62,9 @@ impl Domain for Fickle {
         };
     }
 
-    fn keep(&mut self, _condition: Condition) {}
+    fn keep(&mut self, _condition: &Condition) {}
 
-    fn set(&mut self, _register: Register, _expression: Expression) {
+    fn set(&mut self, _register: Register, _expression: &Expression) {
         *self = match self {
             Fickle::None => Fickle::None,
             Fickle::Fresh | Fickle::Stale => Fickle::Fresh,
@@ -96,7 +96,7 @@ impl Domain for Fickle {
         }
     }
 
-    fn sure(&self, _expression: Expression) -> bool {
+    fn sure(&self, _expression: &Expression) -> bool {
         false
     }
 

@@ -28,20 +28,20 @@ pub(crate) fn term<V: NumberSet>(sets: &[V; REGISTERS], t: Term) -> V
 }
 
 // The results of an expression that lie within the limit.
-pub(crate) fn value<V: NumberSet>(sets: &[V; REGISTERS], expression: Expression) -> Option<V>
-    ensures { result ≡ value V.NumberSet.sets sets.now expression }
+pub(crate) fn value<V: NumberSet>(sets: &[V; REGISTERS], expression: &Expression) -> Option<V>
+    ensures { result ≡ value V.NumberSet.sets sets.now expression.now }
 {
-    match expression {
+    match *expression {
         Expression::Bare(t) => Some(term(sets, t)),
         Expression::Apply(op, left, right) => term(sets, left).apply(op, term(sets, right)),
     }
 }
 
 // The same cases as for the value, with another answer in each: one function for both would take two closures.
-pub(crate) fn sure_value<V: NumberSet>(sets: &[V; REGISTERS], expression: Expression) -> bool
-    ensures { result ≡ sure_value V.NumberSet.sets sets.now expression }
+pub(crate) fn sure_value<V: NumberSet>(sets: &[V; REGISTERS], expression: &Expression) -> bool
+    ensures { result ≡ sure_value V.NumberSet.sets sets.now expression.now }
 {
-    match expression {
+    match *expression {
         Expression::Bare(_) => true,
         Expression::Apply(op, left, right) => term(sets, left).fits(op, term(sets, right)),
     }

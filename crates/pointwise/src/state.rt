@@ -123,7 +123,7 @@ impl<V: NumberSet> Domain for Pointwise<V> {
         put(&mut self.sets, register, set);
     }
 
-    fn keep(&mut self, condition: Condition) {
+    fn keep(&mut self, condition: &Condition) {
         let Some(sets) = &self.sets else {
             return;
         };
@@ -135,7 +135,7 @@ impl<V: NumberSet> Domain for Pointwise<V> {
         }
     }
 
-    fn set(&mut self, register: Register, expression: Expression) {
+    fn set(&mut self, register: Register, expression: &Expression) {
         let Some(sets) = &self.sets else {
             return;
         };
@@ -159,7 +159,7 @@ impl<V: NumberSet> Domain for Pointwise<V> {
         }
     }
 
-    fn sure(&self, expression: Expression) -> bool {
+    fn sure(&self, expression: &Expression) -> bool {
         match &self.sets {
             None => true,
             Some(sets) => sure_value(sets, expression),
