@@ -62,13 +62,17 @@ given n e (Some x) f = f x
 abbrev pub commanded : ℕ → Env → Went
 commanded n e = went (Commanded (position e)) n e
 
+-- all values are worked out before an axis takes its own
+abbrev pub moved : ℕ → Env → Option Value → Option Value → Option Value → Option Value → Went
+moved n e x y z u =
+    given n e (worked e x) (λ a. given n e (worked e y) (λ b. given n e (worked e z) (λ c. given n e (worked e u) (λ d. commanded (n + 1) (set_if (set_if (set_if (set_if e 0 a) 1 b) 2 c) 3 d)))))
+
 abbrev pub over : List Line → ℕ → Env → Option Line → Went
 over lines n e None = went Ended n e
 over lines n e (Some Plain) = went WentOn (n + 1) e
 over lines n e (Some (EndIf l)) = went WentOn (n + 1) e
 over lines n e (Some (Setting p v)) = given n e (value_of e v) (λ x. went WentOn (n + 1) (slice_set e (register p) x))
-over lines n e (Some (Move g x y z u)) =
-    given n e (worked e x) (λ a. given n e (worked e y) (λ b. given n e (worked e z) (λ c. given n e (worked e u) (λ d. commanded (n + 1) (set_if (set_if (set_if (set_if e 0 a) 1 b) 2 c) 3 d)))))
+over lines n e (Some (Move g x y z u)) = moved n e x y z u
 over lines n e (Some (While l c)) = went WentOn (cond (holds e c) (n + 1) (behind (length lines) (block_of lines l))) e
 over lines n e (Some (If l c)) = went WentOn (cond (holds e c) (n + 1) (behind (length lines) (block_of lines l))) e
 over lines n e (Some (EndWhile l)) = went WentOn (first (length lines) (block_of lines l)) e

@@ -1,5 +1,5 @@
 // A run: the line it stands at, and its registers.
-ghost use Rattle.std.specs.Prelude.{◌≡◌, ◌<◌, length, if◌then◌else◌, Some};
+ghost use Rattle.std.specs.Prelude.{◌≡◌, ◌+◌, ◌^◌, ◌<◌, length, if◌then◌else◌, Some};
 ghost use Rattle.std.specs.Option.{unwrap_or};
 ghost use Rattle.model.specs.Blocks.{block_of};
 ghost use Rattle.model.specs.Environments.{position};
@@ -9,7 +9,7 @@ ghost use Rattle.model.specs.Values.{holds};
 ghost use Rattle.program.specs.Held.{held};
 ghost use Rattle.runner.specs.Drying.{start, number, is_past};
 ghost use Rattle.runner.specs.Plain.{no_run, run_at, PlainStep};
-ghost use Rattle.runner.specs.Steps.{worked, set_if, over, behind, first, went, gone, commanded, step_of};
+ghost use Rattle.runner.specs.Steps.{worked, set_if, moved, over, behind, first, went, gone, commanded, step_of};
 
 use crate::value::{meets, value};
 use model::axes::{Axes, Position};
@@ -144,6 +144,29 @@ impl Run {
         }
     }
 
+    // What a move at line n comes to, or none where a value faults. It is large, and other lines go faster without it.
+    #[inline(never)]
+    fn carry(
+        &mut self,
+        n: usize,
+        x: &Option<Value>,
+        y: &Option<Value>,
+        z: &Option<Value>,
+        u: &Option<Value>,
+    ) -> Option<Stepped>
+        requires at { self.old.at ≡ Some n }
+        requires room { n + 1 < 2 ^ 64 }
+        ensures { gone self.new (unwrap_or result Stepped.Fault) ≡ moved n self.old.registers x.now y.now z.now u.now }
+    {
+        let to = Axes {
+            x: worked(&self.registers, x)?,
+            y: worked(&self.registers, y)?,
+            z: worked(&self.registers, z)?,
+            u: worked(&self.registers, u)?,
+        };
+        Some(self.travel(n + 1, to))
+    }
+
     // What the step over the line at n answers, or none where a value faults.
     fn cross(&mut self, program: &Program, n: usize, line: &Line) -> Option<Stepped>
         requires at { self.old.at ≡ Some n }
@@ -159,15 +182,7 @@ impl Run {
                 self.registers[Register::from(*parameter).index] = value(&self.registers, *v)?;
                 self.go(n + 1)
             }
-            Line::Move { x, y, z, u, .. } => {
-                let to = Axes {
-                    x: worked(&self.registers, x)?,
-                    y: worked(&self.registers, y)?,
-                    z: worked(&self.registers, z)?,
-                    u: worked(&self.registers, u)?,
-                };
-                self.travel(n + 1, to)
-            }
+            Line::Move { x, y, z, u, .. } => self.carry(n, x, y, z, u)?,
             // Tried: one arm for both kinds leaves the proof without which line it is.
             Line::While { label, condition } => self.turn(program, n + 1, *label, condition),
             Line::If { label, condition } => self.turn(program, n + 1, *label, condition),
