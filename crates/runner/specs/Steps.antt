@@ -30,6 +30,11 @@ set_if e r (Some x) = slice_set e r x
 abbrev pub line_at : List Line → ℕ → Option Line
 line_at xs n = cond (nat_lt n (length xs)) (Some (slice_index_or xs n Plain)) None
 
+-- the line under a run
+abbrev pub line_under : List Line → Option ℕ → Option Line
+line_under xs None = None
+line_under xs (Some n) = line_at xs n
+
 -- behind the end of a block, and at its first line; past the last line where there is none
 abbrev pub by_end : ℕ → Option ℕ → ℕ
 by_end n None = n

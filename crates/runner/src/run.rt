@@ -1,6 +1,6 @@
 // A run: the line it stands at, and its registers.
 ghost use Rattle.std.specs.Prelude.{◌≡◌, ◌+◌, ◌^◌, ◌<◌, length, if◌then◌else◌, Some};
-ghost use Rattle.std.specs.Option.{unwrap_or};
+ghost use Rattle.std.specs.Option.{unwrap_or, option_map};
 ghost use Rattle.model.specs.Blocks.{block_of};
 ghost use Rattle.model.specs.Environments.{position};
 ghost use Rattle.model.specs.Sides.{axis_register};
@@ -9,7 +9,7 @@ ghost use Rattle.model.specs.Values.{holds};
 ghost use Rattle.program.specs.Held.{held};
 ghost use Rattle.runner.specs.Drying.{start, number, is_past};
 ghost use Rattle.runner.specs.Plain.{no_run, run_at, PlainStep};
-ghost use Rattle.runner.specs.Steps.{worked, set_if, moved, over, behind, first, went, gone, commanded, step_of};
+ghost use Rattle.runner.specs.Steps.{worked, set_if, moved, line_under, behind, first, went, gone, commanded, step_of};
 
 use crate::value::{meets, value};
 use model::axes::{Axes, Position};
@@ -167,26 +167,41 @@ impl Run {
         Some(self.travel(n + 1, to))
     }
 
-    // What the step over the line at n answers, or none where a value faults.
-    fn cross(&mut self, program: &Program, n: usize, line: &Line) -> Option<Stepped>
-        requires at { self.old.at ≡ Some n }
-        requires within { n < length (held program.now) }
-        ensures { gone self.new (unwrap_or result Stepped.Fault) ≡ over (held program.now) n self.old.registers (Some line.now) }
+    // The line under the run.
+    fn line_under<'a>(&self, program: &'a Program) -> Option<&'a Line>
+        ensures { option_map (λ line. line.now) result ≡ line_under (held program.now) self.now.at }
     {
-        let answer = match line {
-            Line::Plain | Line::EndIf { .. } => self.go(n + 1),
-            Line::Setting {
-                parameter,
-                value: v,
-            } => {
+        program.lines().get(self.at?)
+    }
+
+    // What a step answers, or none where a value faults. It goes by where the run is and by the line there together.
+    fn advance(&mut self, program: &Program) -> Option<Stepped>
+        ensures { gone self.new (unwrap_or result Stepped.Fault) ≡ step_of (held program.now) self.old }
+    {
+        let answer = match (self.at, self.line_under(program)) {
+            (Some(n), Some(Line::Plain | Line::EndIf { .. })) => self.go(n + 1),
+            (
+                Some(n),
+                Some(
+                    Line::Setting {
+                        parameter,
+                        value: v,
+                    },
+                ),
+            ) => {
                 self.registers[Register::from(*parameter).index] = value(&self.registers, *v)?;
                 self.go(n + 1)
             }
-            Line::Move { x, y, z, u, .. } => self.carry(n, x, y, z, u)?,
+            (Some(n), Some(Line::Move { x, y, z, u, .. })) => self.carry(n, x, y, z, u)?,
             // Tried: one arm for both kinds leaves the proof without which line it is.
-            Line::While { label, condition } => self.turn(program, n + 1, *label, condition),
-            Line::If { label, condition } => self.turn(program, n + 1, *label, condition),
-            Line::EndWhile { label } => self.go(first(program, *label)),
+            (Some(n), Some(Line::While { label, condition })) => {
+                self.turn(program, n + 1, *label, condition)
+            }
+            (Some(n), Some(Line::If { label, condition })) => {
+                self.turn(program, n + 1, *label, condition)
+            }
+            (Some(_), Some(Line::EndWhile { label })) => self.go(first(program, *label)),
+            (_, _) => Stepped::Ended,
         };
         Some(answer)
     }
@@ -196,12 +211,6 @@ impl Run {
         ensures is { gone self.new result ≡ step_of (held program.now) self.old }
         ensures plain { Closed (held program.now) → PlainStep (held program.now) self.old result self.new }
     {
-        let Some(n) = self.at else {
-            return Stepped::Ended;
-        };
-        let Some(line) = program.lines().get(n) else {
-            return Stepped::Ended;
-        };
-        self.cross(program, n, line).unwrap_or(Stepped::Fault)
+        self.advance(program).unwrap_or(Stepped::Fault)
     }
 }
