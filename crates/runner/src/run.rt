@@ -1,6 +1,6 @@
 // A run: the line it stands at, and its registers.
 ghost use Rattle.std.specs.Prelude.{◌≡◌, ◌+◌, ◌^◌, ◌<◌, length, if◌then◌else◌, Some};
-ghost use Rattle.std.specs.Option.{unwrap_or, option_map};
+ghost use Rattle.std.specs.Option.{option_map};
 ghost use Rattle.model.specs.Blocks.{block_of};
 ghost use Rattle.model.specs.Environments.{position};
 ghost use Rattle.model.specs.Sides.{axis_register};
@@ -144,8 +144,7 @@ impl Run {
         }
     }
 
-    // What a move at line n comes to, or none where a value faults. It is large, and other lines go faster without it.
-    #[inline(never)]
+    // A move at line n: all values are worked out before an axis takes its own.
     fn carry(
         &mut self,
         n: usize,
@@ -153,18 +152,24 @@ impl Run {
         y: &Option<Value>,
         z: &Option<Value>,
         u: &Option<Value>,
-    ) -> Option<Stepped>
+    ) -> Stepped
         requires at { self.old.at ≡ Some n }
         requires room { n + 1 < 2 ^ 64 }
-        ensures { gone self.new (unwrap_or result Stepped.Fault) ≡ moved n self.old.registers x.now y.now z.now u.now }
+        ensures { gone self.new result ≡ moved n self.old.registers x.now y.now z.now u.now }
     {
-        let to = Axes {
-            x: worked(&self.registers, x)?,
-            y: worked(&self.registers, y)?,
-            z: worked(&self.registers, z)?,
-            u: worked(&self.registers, u)?,
+        let Some(x) = worked(&self.registers, x) else {
+            return Stepped::Fault;
         };
-        Some(self.travel(n + 1, to))
+        let Some(y) = worked(&self.registers, y) else {
+            return Stepped::Fault;
+        };
+        let Some(z) = worked(&self.registers, z) else {
+            return Stepped::Fault;
+        };
+        let Some(u) = worked(&self.registers, u) else {
+            return Stepped::Fault;
+        };
+        self.travel(n + 1, Axes { x, y, z, u })
     }
 
     // The line under the run.
@@ -174,11 +179,11 @@ impl Run {
         program.lines().get(self.at?)
     }
 
-    // What a step answers, or none where a value faults. It goes by where the run is and by the line there together.
-    fn advance(&mut self, program: &Program) -> Option<Stepped>
-        ensures { gone self.new (unwrap_or result Stepped.Fault) ≡ step_of (held program.now) self.old }
+    // What a step does and answers goes by where the run is and by the line there together.
+    fn advance(&mut self, program: &Program) -> Stepped
+        ensures { gone self.new result ≡ step_of (held program.now) self.old }
     {
-        let answer = match (self.at, self.line_under(program)) {
+        match (self.at, self.line_under(program)) {
             (Some(n), Some(Line::Plain | Line::EndIf { .. })) => self.go(n + 1),
             (
                 Some(n),
@@ -189,10 +194,13 @@ impl Run {
                     },
                 ),
             ) => {
-                self.registers[Register::from(*parameter).index] = value(&self.registers, *v)?;
+                let Some(x) = value(&self.registers, *v) else {
+                    return Stepped::Fault;
+                };
+                self.registers[Register::from(*parameter).index] = x;
                 self.go(n + 1)
             }
-            (Some(n), Some(Line::Move { x, y, z, u, .. })) => self.carry(n, x, y, z, u)?,
+            (Some(n), Some(Line::Move { x, y, z, u, .. })) => self.carry(n, x, y, z, u),
             // Tried: one arm for both kinds leaves the proof without which line it is.
             (Some(n), Some(Line::While { label, condition })) => {
                 self.turn(program, n + 1, *label, condition)
@@ -202,8 +210,7 @@ impl Run {
             }
             (Some(_), Some(Line::EndWhile { label })) => self.go(first(program, *label)),
             (_, _) => Stepped::Ended,
-        };
-        Some(answer)
+        }
     }
 
     // One step over the line under the run; in a closed program it is that of the plain run.
@@ -211,6 +218,6 @@ impl Run {
         ensures is { gone self.new result ≡ step_of (held program.now) self.old }
         ensures plain { Closed (held program.now) → PlainStep (held program.now) self.old result self.new }
     {
-        self.advance(program).unwrap_or(Stepped::Fault)
+        self.advance(program)
     }
 }
