@@ -1,5 +1,6 @@
 // Classes of bytes, and runs of one class.
 ghost use Rattle.std.specs.Prelude.{◌≡◌, ◌≤◌, length};
+ghost use Rattle.lexer.specs.declared.class.Class.TheVariants.{Letter, Digit, Blank};
 ghost use Rattle.lexer.specs.Classes.{class, run};
 
 #[derive(Clone, Copy, PartialEq, Eq)]
@@ -24,10 +25,25 @@ impl From<u8> for Class {
     }
 }
 
-// How many bytes at the front are of the class. One line, as in the crates above: a function of the test would be as long.
-pub(crate) fn run_len(s: &[u8], k: Class) -> usize
-    ensures is { result ≡ run k s.now }
+// A test for each class, so that a run is found without sorting its bytes into all of them.
+
+pub(crate) fn letters(s: &[u8]) -> usize
+    ensures is { result ≡ run Letter s.now }
     ensures within { result ≤ length s.now }
 {
-    s.iter().take_while(|&&b| Class::from(b) == k).count()
+    s.iter().take_while(|b| b.is_ascii_alphabetic()).count()
+}
+
+pub(crate) fn digits(s: &[u8]) -> usize
+    ensures is { result ≡ run Digit s.now }
+    ensures within { result ≤ length s.now }
+{
+    s.iter().take_while(|b| b.is_ascii_digit()).count()
+}
+
+pub(crate) fn blanks(s: &[u8]) -> usize
+    ensures is { result ≡ run Blank s.now }
+    ensures within { result ≤ length s.now }
+{
+    s.iter().take_while(|&&b| b == b' ').count()
 }

@@ -6,6 +6,7 @@ use crate::rack::Rack;
 
 impl<T: Copy, const N: usize> Rack<T, N> {
     // Every place is filled with the blank, and none is held.
+    #[inline(never)]
     pub(crate) fn new(blank: T) -> Rack<T, N>
         ensures { listed result ≡ [] }
     {
