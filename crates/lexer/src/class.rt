@@ -16,11 +16,15 @@ impl From<u8> for Class {
     ghost from_gives = { λ b result. result ≡ class b };
 
     fn from(b: u8) -> Class {
-        match b {
-            b'A'..=b'Z' | b'a'..=b'z' => Class::Letter,
-            b'0'..=b'9' => Class::Digit,
-            b' ' => Class::Blank,
-            _ => Class::Mark,
+        // the same tests as of the runs below, so that none is made twice
+        if b.is_ascii_alphabetic() {
+            Class::Letter
+        } else if b.is_ascii_digit() {
+            Class::Digit
+        } else if b == b' ' {
+            Class::Blank
+        } else {
+            Class::Mark
         }
     }
 }
