@@ -62,6 +62,7 @@ impl<'a> Reader<'a> {
         expect::taken(item, test)
     }
 
+    #[inline(always)]
     fn digits(&mut self, lo: u32, hi: u32) -> Result<u32, Refusal>
         ensures bound { IfOk result (λ n. n ≤ hi) }
         ensures parses { Parses (expect (digits lo hi)) self.old.lexer result self.new.lexer }
@@ -69,6 +70,7 @@ impl<'a> Reader<'a> {
         self.expect(|s| expect::digits(s, lo, hi))
     }
 
+    #[inline(always)]
     fn keyword(&mut self, k: Keyword) -> Result<Keyword, Refusal>
         ensures { Parses (expect (only k)) self.old.lexer result self.new.lexer }
     {
