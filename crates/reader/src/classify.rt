@@ -68,6 +68,7 @@ fn keyword_of(s: &[u8]) -> Option<Keyword>
     named(&KEYWORDS, s)
 }
 
+// Apart from the other tokens, which are more frequent and shorter to sort.
 #[inline(never)]
 fn letters_of(s: &[u8]) -> Symbol
     ensures { result ≡ letters s.now }

@@ -1,11 +1,9 @@
-use Rattle.std.proofs.Common.{◌≡◌, ℕ, true, false, List, Some, None, sym, ◌∙◌, subst, arith, rules}
-use Rattle.std.proofs.lemmas.Iterator.{IsFirst-from_position, YieldsList-from_slice}
-use borrow.Author.Tests.{tests}
-use Rattle.grammar.specs.Answer.{Answer, answer, permitted}
+use Rattle.std.proofs.Common.{◌≡◌, ℕ, List, sym, ◌∙◌, subst, arith}
+use Rattle.grammar.specs.Answer.{Answer, answer}
 use Rattle.grammar.specs.Law.{TheAnswer}
 use Rattle.grammar.proofs.Texts.{long_answer, byte_answer}
 use Rattle.grammar.proofs.Unique.{the_answer}
-use Rattle.reader.proofs.Finish.{parses_reading, clear_at, passed}
+use Rattle.reader.proofs.Finish.{parses_reading, passed}
 use Rattle.reader.proofs.read.Goals as goal
 
 lawful : (s : List ℕ) (a : Answer) → a ≡ answer s → TheAnswer s a

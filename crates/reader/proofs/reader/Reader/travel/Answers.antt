@@ -1,4 +1,3 @@
-use Rattle.std.proofs.Common.{ap, ◌∙◌, rules}
 use Rattle.grammar.specs.Axes.{put, no_values, motion_of}
 use Rattle.grammar.specs.Combinators.{expect}
 use Rattle.grammar.specs.Tests.{axis, digits}
