@@ -1,5 +1,6 @@
 // Classes of bytes, and runs of one class.
 ghost use Rattle.std.specs.Prelude.{◌≡◌, ◌≤◌, length};
+ghost use Rattle.lexer.specs.declared.class.Class.TheVariants.{Letter, Digit, Blank};
 ghost use Rattle.lexer.specs.Classes.{class, run};
 
 #[derive(Clone, Copy, PartialEq, Eq)]
@@ -15,19 +16,38 @@ impl From<u8> for Class {
     ghost from_gives = { λ b result. result ≡ class b };
 
     fn from(b: u8) -> Class {
-        match b {
-            b'A'..=b'Z' | b'a'..=b'z' => Class::Letter,
-            b'0'..=b'9' => Class::Digit,
-            b' ' => Class::Blank,
-            _ => Class::Mark,
+        // the same tests as of the runs below, so that none is made twice
+        if b.is_ascii_alphabetic() {
+            Class::Letter
+        } else if b.is_ascii_digit() {
+            Class::Digit
+        } else if b == b' ' {
+            Class::Blank
+        } else {
+            Class::Mark
         }
     }
 }
 
-// How many bytes at the front are of the class. One line, as in the crates above: a function of the test would be as long.
-pub(crate) fn run_len(s: &[u8], k: Class) -> usize
-    ensures is { result ≡ run k s.now }
+// A test for each class, so that a run is found without sorting its bytes into all of them.
+
+pub(crate) fn letters(s: &[u8]) -> usize
+    ensures is { result ≡ run Letter s.now }
     ensures within { result ≤ length s.now }
 {
-    s.iter().take_while(|&&b| Class::from(b) == k).count()
+    s.iter().take_while(|b| b.is_ascii_alphabetic()).count()
+}
+
+pub(crate) fn digits(s: &[u8]) -> usize
+    ensures is { result ≡ run Digit s.now }
+    ensures within { result ≤ length s.now }
+{
+    s.iter().take_while(|b| b.is_ascii_digit()).count()
+}
+
+pub(crate) fn blanks(s: &[u8]) -> usize
+    ensures is { result ≡ run Blank s.now }
+    ensures within { result ≤ length s.now }
+{
+    s.iter().take_while(|&&b| b == b' ').count()
 }

@@ -1,5 +1,5 @@
 -- What the reader did is what the text is answered.
-use Rattle.std.proofs.Common.{◌≡◌, ℕ, ◌<◌, ◌≤◌, true, false, cond, eqb, leb, List, length, drop, Option, MatchOption, unwrap_or, Ok, Err, Result, sym, refl, ap, ◌∙◌, arith, Bor}
+use Rattle.std.proofs.Common.{◌≡◌, ℕ, ◌<◌, ◌≤◌, true, false, cond, eqb, leb, List, length, drop, Option, Some, None, MatchOption, unwrap_or, Ok, Err, Result, sym, refl, ap, ◌∙◌, arith, Bor}
 use Rattle.std.proofs.lemmas.Bool.Decides.{nat_tests}
 use Rattle.std.proofs.lemmas.Iterator.{index_from_first}
 use Rattle.std.specs.List.{AllWithin, HoldsAt}
@@ -29,6 +29,10 @@ parses_reading a r b text z e d =
 -- ---- where a search finds the first byte that is not permitted, or that there is none
 pub clear_at : (s : List ℕ) (r : Option ℕ) → MatchOption r (AllWithin (λ b. permitted b ≡ true) s 0 (length s)) (λ i. (i < length s) × HoldsAt (λ b. permitted b ≡ false) s i × AllWithin (λ b. permitted b ≡ true) s 0 i) → clear s ≡ unwrap_or r (length s)
 clear_at = index_from_first clear (λ b. permitted b ≡ false) (λ b. permitted b ≡ true) refl (λ b bs e. rw e refl) (λ b bs e. rw e (omega arith))
+
+pub first_at : (s : List ℕ) (r : Option ℕ) → MatchOption r (AllWithin (λ b. permitted b ≡ true) s 0 (length s)) (λ i. (i < length s) × HoldsAt (λ b. permitted b ≡ false) s i × AllWithin (λ b. permitted b ≡ true) s 0 i) → MatchOption r (clear s ≡ length s) (λ i. (clear s ≡ i) × (i < length s))
+first_at s None h = clear_at s None h
+first_at s (Some i) h = (clear_at s (Some i) h, h.0)
 
 -- ---- a text that passes the two tests
 pub passed : (s : List ℕ) → length s ≤ 120 → clear s ≡ length s → answer s ≡ reading s

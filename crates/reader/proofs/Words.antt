@@ -1,5 +1,5 @@
 -- The reader's axis words: what one turn does.
-use Rattle.std.proofs.Common.{◌≡◌, ℕ, zero, suc, ◌-◌, ◌<◌, true, false, Some, None, Option, is_some, true≢false, Ok, Err, Result, sym, refl, ap, ◌∙◌, subst, arith}
+use Rattle.std.proofs.Common.{◌≡◌, ℕ, zero, suc, ◌-◌, ◌<◌, true, false, Some, None, Option, is_some, true≢false, Ok, Err, Result, IsErrAnd, sym, refl, ap, ◌∙◌, subst, arith}
 use Rattle.lexer.specs.declared.lexer.Lexer.{Lexer}
 use Rattle.model.specs.declared.expression.Value.{Value}
 use Rattle.model.specs.declared.line.Axis.{Axis}
@@ -15,7 +15,7 @@ use Rattle.grammar.specs.Axes.{AxisValues, has, put, has_symbol, count, moved}
 use Rattle.grammar.specs.Combinators.{Parser, bad, bind, expect, or_more}
 use Rattle.grammar.specs.Tests.{axis, tried, outcome}
 use Rattle.grammar.specs.Parser.{value, more, more_words}
-use Rattle.reader.specs.Parses.{Parses, Takes}
+use Rattle.reader.specs.Parses.{Parses, Takes, made}
 use Rattle.reader.proofs.Chains.{parses_then, parses_stop, parses_leaf, parses_again, parses_more}
 use Rattle.grammar.proofs.Moves.{tally_le, tally_one}
 
@@ -106,3 +106,8 @@ module _ (g : Motion) (m : AxisValues) (a : Lexer) (i : Item) (b : Lexer) (t : T
 
     pub words_then : (v : Value) (r : Result Line Refusal) (c d : Lexer) → has m x ≡ false → Parses value b (Ok v) c → Parses (more_words g (put m x v)) c r d → Parses (more_words g m) a r d
     words_then v r c d k dv dm = on r d k (goes_then (4 - count m) g m x b c d v r refl k dv dm)
+
+-- ---- a move from its words
+pub made_refused : (p : Parser Line) (a b : Lexer) (g : Motion) (m : AxisValues) (r : Result (Unit {0}) Refusal) (e : Refusal) → IsErrAnd r (λ x. x ≡ e) → Parses p a (Err e) b → Parses p a (made g m r) b
+made_refused p a b g m (Ok u) e h d = absurd h
+made_refused p a b g m (Err x) e h d = subst (λ y. Parses p a (Err y) b) (sym h) d

@@ -2,12 +2,15 @@
 use Rattle.std.specs.Prelude.{◌≡◌, ℕ, List, [], ◌∷◌, ◌++◌, length, drop, Some, None, Ok, Err, Option, Result}
 use Rattle.lexer.specs.declared.lexer.Lexer.{Lexer}
 use Rattle.lexer.specs.Lexemes.{Lexeme, lexemes_from}
+use Rattle.model.specs.declared.line.Line.{Line}
+use Rattle.model.specs.declared.line.Motion.{Motion}
 use Rattle.grammar.specs.declared.symbol.Symbol.{Symbol}
 use Rattle.grammar.specs.declared.symbol.Item.{Item}
 use Rattle.grammar.specs.declared.refusal.Refusal.{Refusal}
 use Rattle.grammar.specs.Combinators.{Parsed, got, bad, Parser}
 use Rattle.grammar.specs.Symbols.{symbol_of, symbols}
 use Rattle.grammar.specs.Answer.{front}
+use Rattle.grammar.specs.Axes.{AxisValues, moved}
 use Rattle.grammar.specs.Causes.{number_of}
 use Rattle.grammar.specs.Tests.{outcome}
 use Rattle.grammar.specs.declared.refusal.Cause.{Cause}
@@ -56,3 +59,8 @@ pub record Expects {A : Type 0} (P : Option Symbol → Result A Cause → Type 0
   pub item : Item
   pub takes : Takes a item b
   pub taken : Taken P item r
+
+-- the values that the words of a move come to, as the line that the move is
+abbrev pub made : Motion → AxisValues → Result (Unit {0}) Refusal → Result Line Refusal
+made g m (Ok u) = Ok (moved g m)
+made g m (Err e) = Err e

@@ -68,6 +68,8 @@ fn keyword_of(s: &[u8]) -> Option<Keyword>
     named(&KEYWORDS, s)
 }
 
+// Apart from the other tokens, which are more frequent and shorter to sort.
+#[inline(never)]
 fn letters_of(s: &[u8]) -> Symbol
     ensures { result ≡ letters s.now }
 {
@@ -78,6 +80,7 @@ fn letters_of(s: &[u8]) -> Symbol
         .unwrap_or(Symbol::Unknown)
 }
 
+#[inline(always)]
 fn mark_of(b: u8) -> Symbol
     ensures { result ≡ mark b }
 {
@@ -94,6 +97,7 @@ fn mark_of(b: u8) -> Symbol
 }
 
 // What the token s is; one that begins with a digit has digits only.
+#[inline(always)]
 pub fn symbol_of(s: &[u8]) -> Symbol
     requires in_bounds { 1 ≤ length s.now }
     requires all_digits { class (slice_index s.now 0) ≡ Digit → AllDigits 10 s.now }

@@ -2,8 +2,9 @@
 
 #![tactic(auto)]
 
-ghost use Rattle.std.specs.Prelude.{◌≡◌};
-ghost use Rattle.grammar.specs.Answer.{said, answer, permitted};
+ghost use Rattle.std.specs.Prelude.{◌≡◌, ◌<◌, length, MatchOption};
+ghost use Rattle.std.specs.List.{list_all};
+ghost use Rattle.grammar.specs.Answer.{said, answer, permitted, clear};
 ghost use Rattle.grammar.specs.Law.{TheAnswer};
 
 use crate::reader::Reader;
@@ -25,6 +26,23 @@ fn allowed(b: u8) -> bool
     b.is_ascii_graphic() || b == b' '
 }
 
+// Without a branch for each byte, so that many are tested at once.
+fn all_allowed(text: &[u8]) -> bool
+    ensures { result ≡ list_all permitted text.now }
+{
+    text.iter().fold(true, |so_far, &b| so_far & allowed(b))
+}
+
+// Where the first byte stands that no line has.
+fn first_forbidden(text: &[u8]) -> Option<usize>
+    ensures { MatchOption result (clear text.now ≡ length text.now) (λ i. (clear text.now ≡ i) × (i < length text.now)) }
+{
+    if all_allowed(text) {
+        return None;
+    }
+    text.iter().position(|&b| !allowed(b))
+}
+
 // The stored line that the text is, or why and where it is refused: the one answer that the grammar gives.
 pub fn read(text: &[u8]) -> Result<Line, Refusal>
     ensures law { TheAnswer text.now (said result) }
@@ -36,7 +54,7 @@ pub fn read(text: &[u8]) -> Result<Line, Refusal>
             place: MAX_TEXT,
         });
     }
-    if let Some(place) = text.iter().position(|&b| !allowed(b)) {
+    if let Some(place) = first_forbidden(text) {
         return Err(Refusal {
             cause: Cause::Byte,
             place,

@@ -28,22 +28,29 @@ impl<'a> Reader<'a> {
         }
     }
 
+    // Inlined where a symbol is expected, so that the test of it becomes one with the sorting of the token.
+    #[inline(always)]
     fn next(&mut self) -> Item
         ensures { Takes self.old.lexer result self.new.lexer }
     {
-        match self.lexer.next() {
+        // A lexer of its own, so that nothing is written before the token is read.
+        let mut lexer = self.lexer;
+        let item = match lexer.next() {
             None => Item {
-                place: self.lexer.len(),
+                place: lexer.len(),
                 symbol: None,
             },
             Some(t) => Item {
                 place: t.place,
                 symbol: Some(symbol_of(t.part)),
             },
-        }
+        };
+        self.lexer = lexer;
+        item
     }
 
     // The next symbol, as the test takes it.
+    #[inline(always)]
     fn expect<A, F: FnOnce(Option<Symbol>) -> Result<A, Cause>>(
         &mut self,
         test: F,
@@ -55,6 +62,7 @@ impl<'a> Reader<'a> {
         expect::taken(item, test)
     }
 
+    #[inline(always)]
     fn digits(&mut self, lo: u32, hi: u32) -> Result<u32, Refusal>
         ensures bound { IfOk result (λ n. n ≤ hi) }
         ensures parses { Parses (expect (digits lo hi)) self.old.lexer result self.new.lexer }
@@ -62,6 +70,7 @@ impl<'a> Reader<'a> {
         self.expect(|s| expect::digits(s, lo, hi))
     }
 
+    #[inline(always)]
     fn keyword(&mut self, k: Keyword) -> Result<Keyword, Refusal>
         ensures { Parses (expect (only k)) self.old.lexer result self.new.lexer }
     {

@@ -3,7 +3,7 @@ ghost use Rattle.std.specs.Prelude.{◌≡◌, ◌<◌, ◌≤◌, length, slice
 ghost use Rattle.lexer.specs.Lexemes.{Heads};
 ghost use Rattle.lexer.specs.Parts.{size, Cut, Next};
 
-use crate::class::{Class, run_len};
+use crate::class::{Class, blanks, digits, letters};
 use crate::lexer::Lexer;
 use crate::token::Token;
 
@@ -28,7 +28,7 @@ impl<'a> Lexer<'a> {
         ensures heads { Heads self.old.text.now self.old.at result self.new.at }
         ensures token { Next self.old.text self.old.at result self.new.at }
     {
-        let blanks = run_len(&self.text[self.at..], Class::Blank);
+        let blanks = blanks(&self.text[self.at..]);
         let place = self.at + blanks;
         self.at = place;
         let (part, rest) = cut(&self.text[place..])?;
@@ -41,14 +41,8 @@ impl<'a> Lexer<'a> {
 fn cut<'a>(s: &'a [u8]) -> Option<(&'a [u8], &'a [u8])>
     ensures { Cut s.entry result }
 {
-    match s {
-        [] => None,
-        [b'#' | b'[' | b']' | b'+' | b'-' | b'*' | b'=', rest @ ..] => Some((&s[..1], rest)),
-        [first, ..] => {
-            let n = first_len(s, *first);
-            Some((&s[0..n], &s[n..]))
-        }
-    }
+    let n = first_len(s, *s.first()?);
+    Some((&s[..n], &s[n..]))
 }
 
 // How long the first token is.
@@ -58,7 +52,8 @@ fn first_len(s: &[u8], first: u8) -> usize
     ensures within { result ≤ length s.now }
 {
     match Class::from(first) {
-        run @ (Class::Letter | Class::Digit) => run_len(s, run),
+        Class::Letter => letters(s),
+        Class::Digit => digits(s),
         Class::Blank | Class::Mark => 1,
     }
 }

@@ -1,11 +1,9 @@
-use Rattle.std.proofs.Common.{◌≡◌, ℕ, true, false, List, Some, None, sym, ◌∙◌, subst, arith, rules}
-use Rattle.std.proofs.lemmas.Iterator.{IsFirst-from_position, YieldsList-from_slice}
-use borrow.Author.Tests.{tests}
-use Rattle.grammar.specs.Answer.{Answer, answer, permitted}
+use Rattle.std.proofs.Common.{◌≡◌, ℕ, List, sym, ◌∙◌, subst, arith}
+use Rattle.grammar.specs.Answer.{Answer, answer}
 use Rattle.grammar.specs.Law.{TheAnswer}
 use Rattle.grammar.proofs.Texts.{long_answer, byte_answer}
 use Rattle.grammar.proofs.Unique.{the_answer}
-use Rattle.reader.proofs.Finish.{parses_reading, clear_at, passed}
+use Rattle.reader.proofs.Finish.{parses_reading, passed}
 use Rattle.reader.proofs.read.Goals as goal
 
 lawful : (s : List ℕ) (a : Answer) → a ≡ answer s → TheAnswer s a
@@ -18,12 +16,10 @@ returns-then-text-gt-MAX_TEXT c =
 
 pub returns-in-Some : goal.returns-in-Some
 returns-in-Some c =
-    let first = IsFirst-from_position _ _ (Some c.in-Some.place) (λ b. permitted b ≡ false) (λ b. permitted b ≡ true) c.in-Some.ensures.ran (YieldsList-from_slice c.args.text.now (search rules)) (λ x q k. search (rules, tests)) (λ x q k. search (rules, tests)) in
-    let e = sym (byte_answer c.args.text.now c.in-Some.place (omega arith) (clear_at _ (Some c.in-Some.place) first) first.0) in
+    let e = sym (byte_answer c.args.text.now c.in-Some.place (omega arith) c.in-Some.ensures.0 c.in-Some.ensures.1) in
     record { law = lawful c.args.text.now _ e; is = e }
 
 pub returns : goal.returns
 returns c =
-    let first = IsFirst-from_position _ _ None (λ b. permitted b ≡ false) (λ b. permitted b ≡ true) c.in_default.ensures.ran (YieldsList-from_slice c.args.text.now (search rules)) (λ x q k. search (rules, tests)) (λ x q k. search (rules, tests)) in
-    let e = parses_reading _ _ _ c.args.text c.new-reader.ensures.at c.new-reader.ensures.text c.line.ensures ∙ sym (passed c.args.text.now (omega arith) (clear_at _ None first)) in
+    let e = parses_reading _ _ _ c.args.text c.new-reader.ensures.at c.new-reader.ensures.text c.line.ensures ∙ sym (passed c.args.text.now (omega arith) c.in_default.ensures) in
     record { law = lawful c.args.text.now _ e; is = e }

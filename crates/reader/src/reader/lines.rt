@@ -1,5 +1,7 @@
 // The reader's methods for whole lines.
-ghost use Rattle.reader.specs.Parses.{Parses};
+ghost use Rattle.model.specs.declared.line.Motion.{Motion};
+ghost use Rattle.reader.specs.Parses.{Parses, made};
+ghost use Rattle.grammar.specs.Axes.{put, no_values};
 ghost use Rattle.grammar.specs.Combinators.{ends};
 ghost use Rattle.grammar.specs.Parser.{setting, more_words, move, block_rest, block, line_rest, line};
 
@@ -9,7 +11,8 @@ use crate::{axes, expect};
 use grammar::axes::AxisValues;
 use grammar::refusal::{Cause, Refusal};
 use grammar::symbol::{BlockWord, Keyword, LineStart};
-use model::line::{Line, Motion};
+use model::expression::Value;
+use model::line::{Axis, Line, Motion};
 
 impl<'a> Reader<'a> {
     // The line, if nothing follows.
@@ -39,13 +42,13 @@ impl<'a> Reader<'a> {
         })
     }
 
-    // More axis words of a move, to the end of the line.
-    fn more(&mut self, motion: Motion, values: AxisValues) -> Result<Line, Refusal>
-        ensures { Parses (more_words motion values) self.old.lexer result self.new.lexer }
+    // More axis words of a move, to the end of the line. The values are kept in one place, and made a line at the end.
+    fn more(&mut self, values: &mut AxisValues) -> Result<(), Refusal>
+        ensures { (g : Motion) → Parses (more_words g values.old) self.old.lexer (made g values.new result) self.new.lexer }
     {
         let item = self.next();
         if item.symbol.is_none() {
-            return Ok(axes::moved(motion, values));
+            return Ok(());
         }
         let a = expect::taken(item, expect::axis)?;
         if values.get(a).is_some() {
@@ -55,7 +58,18 @@ impl<'a> Reader<'a> {
             });
         }
         let v = self.value()?;
-        self.more(motion, values.with(a, Some(v)))
+        axes::give(values, a, v);
+        self.more(values)
+    }
+
+    // The move whose first word is this axis with this value.
+    fn words(&mut self, motion: Motion, a: Axis, v: Value) -> Result<Line, Refusal>
+        ensures { Parses (more_words motion (put no_values a v)) self.old.lexer result self.new.lexer }
+    {
+        let mut values = AxisValues::default();
+        axes::give(&mut values, a, v);
+        self.more(&mut values)?;
+        Ok(axes::moved(motion, values))
     }
 
     // A move, after the G.
@@ -65,7 +79,7 @@ impl<'a> Reader<'a> {
         let g = self.digits(0, 1)?;
         let a = self.expect(expect::axis)?;
         let v = self.value()?;
-        self.more(axes::motion_of(g), AxisValues::default().with(a, Some(v)))
+        self.words(axes::motion_of(g), a, v)
     }
 
     // A block line, after its label.

@@ -10,6 +10,7 @@ use model::expression::{Condition, Expression, LIMIT, Term, Value};
 
 impl<'a> Reader<'a> {
     // The law of the grammar splits by what begins, so no closure stands for what follows.
+    #[inline(always)]
     fn term_rest(&mut self, start: TermStart) -> Result<Term, Refusal>
         ensures { Parses (term_rest start) self.old.lexer result self.new.lexer }
     {

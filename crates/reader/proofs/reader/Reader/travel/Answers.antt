@@ -1,4 +1,3 @@
-use Rattle.std.proofs.Common.{ap, ◌∙◌, rules}
 use Rattle.grammar.specs.Axes.{put, no_values, motion_of}
 use Rattle.grammar.specs.Combinators.{expect}
 use Rattle.grammar.specs.Tests.{axis, digits}
@@ -25,4 +24,4 @@ pub returns : goal.returns
 returns c = parses_then (expect (digits 0 1)) after_g _ _ _ _ _ c.in_ok-g.ensures.parses
     (parses_then (expect axis) (after_axis (motion_of c.in_ok-g.g)) _ _ _ _ _ (parses_expected axis _ _ _ c.in_ok-a.ensures)
     (parses_then value (λ v. more_words (motion_of c.in_ok-g.g) (put no_values c.in_ok-a.a v)) _ _ _ _ _ c.in_ok-v.ensures
-    (parses_same (more_words (motion_of c.in_ok-g.g)) _ _ _ _ _ (c.with.ensures ∙ ap (λ m. put m c.in_ok-a.a c.in_ok-v.v) (search rules)) (parses_same (λ g. more_words g c.with.result) _ _ _ _ _ c.motion_of.ensures c.more.ensures))))
+    (parses_same (λ g. more_words g (put no_values c.in_ok-a.a c.in_ok-v.v)) _ _ _ _ _ c.motion_of.ensures c.words.ensures)))
