@@ -41,8 +41,14 @@ impl<'a> Lexer<'a> {
 fn cut<'a>(s: &'a [u8]) -> Option<(&'a [u8], &'a [u8])>
     ensures { Cut s.entry result }
 {
-    let n = first_len(s, *s.first()?);
-    Some((&s[..n], &s[n..]))
+    match s {
+        [] => None,
+        [b'#' | b'[' | b']' | b'+' | b'-' | b'*' | b'=', rest @ ..] => Some((&s[..1], rest)),
+        [first, ..] => {
+            let n = first_len(s, *first);
+            Some((&s[..n], &s[n..]))
+        }
+    }
 }
 
 // How long the first token is.
