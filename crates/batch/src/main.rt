@@ -2,7 +2,9 @@
 
 #![tactic(auto)]
 
-ghost use Rattle.std.specs.Prelude.{◌<◌, length, IfSome};
+ghost use Rattle.std.specs.Prelude.{◌<◌, length, IfSome, MatchOption};
+ghost use Rattle.batch.specs.Inputs.{Unmarked, FirstInput};
+ghost use Rattle.console.specs.Lines.{lines_of};
 
 use console::input::report_on;
 use console::lines::first_line;
@@ -10,13 +12,14 @@ use std::io::Read;
 
 // The first input, and what follows the line behind it.
 fn first_input(text: &[u8]) -> Option<(&[u8], &[u8])>
-    ensures { IfSome result (λ p. length p.1.now < length text.now) }
+    ensures cut { MatchOption result (Unmarked (lines_of text.now)) (λ p. FirstInput text.now p.0.now p.1.now) }
+    ensures shorter { IfSome result (λ p. length p.1.now < length text.now) }
 {
     // Not a `for`: the answer is cut where the line that is looked at begins.
     let mut rest = text;
     while let Some((line, more)) = first_line(rest) {
         if line == b"----".as_slice() {
-            return Some((&text[0..text.len() - rest.len()], more));
+            return Some((&text[..text.len() - rest.len()], more));
         }
         rest = more;
     }

@@ -1,59 +1,38 @@
 // What runs come to, as the last answers to a script: here dry runs, and the helper for all.
-use calls::replay::replay;
-use calls::tape::Tape;
-use desk::answer::Reply;
-use desk::desk::{Table, first_table, read_entry};
-use desk::entry::{Answer, Entry};
-use std::alloc::AllocError;
+use desk::entry::Answer;
+use desk::script::answer_script;
+use std::alloc::{AllocError, Global};
 use std::process::Abort;
 use std::test::*;
 
 mod steps;
 
-// Leaves the entries of a script's last session, and gives its table.
-fn last_session<'a>(
-    script: &[&'a [u8]],
-    entries: &mut Vec<Entry<'a>>,
-) -> Result<Table, AllocError> {
-    let mut table = first_table();
-    for (before, line) in script.iter().enumerate() {
-        let entry = read_entry(before + 1, *line);
-        if let Some(next) = entry.table() {
-            entries.clear();
-            table = next;
-        }
-        entries.push(entry)?;
+fn text_of(alloc: Global, lines: &[&[u8]]) -> Result<Vec<u8>, AllocError> {
+    let mut text = Vec::new(alloc);
+    for line in lines {
+        text.extend_from_slice(*line)?;
+        text.push(b'\n')?;
     }
-    Ok(table)
+    Ok(text)
 }
 
-fn check_shown(rt: &(impl Abort + AllocGlobal), answer: Answer, text: &str) -> Result<(), Fail> {
+fn check_shown(rt: &(impl Abort + AllocGlobal), answer: &Answer, text: &str) -> Result<(), Fail> {
     let shown = format!(in rt.alloc(); "{answer}")?;
     assert!(rt; shown.as_str() == text);
     Ok(())
 }
 
-// The last answers to a script, all of its last session.
+// The last answers to a script.
 fn check_answers(
     rt: &(impl Abort + AllocGlobal),
     script: &[&[u8]],
-    answers: &[&str],
+    last: &[&str],
 ) -> Result<(), Fail> {
-    let mut entries = Vec::new(rt.alloc());
-    let table = last_session(script, &mut entries)?;
-    let mut replies = vec![in rt.alloc(); Reply::Done; entries.len()]?;
-    let mut tape = Tape {
-        calls: entries.as_mut_slice(),
-        answers: replies.as_mut_slice(),
-    };
-    replay(table, &mut tape);
-    assert!(rt; answers.len() <= entries.len());
-    let before = entries.len() - answers.len();
-    for ((entry, reply), text) in entries.iter().zip(&replies).skip(before).zip(answers) {
-        let answer = Answer {
-            entry: *entry,
-            reply: *reply,
-        };
+    let script = text_of(rt.alloc(), script)?;
+    let answers = answer_script(rt.alloc(), script.as_slice())?;
+    assert!(rt; last.len() <= answers.len());
+    let before = answers.len() - last.len();
+    for (answer, text) in answers.iter().skip(before).zip(last) {
         check_shown(rt, answer, *text)?;
     }
     Ok(())

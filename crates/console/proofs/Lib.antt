@@ -1,6 +1,6 @@
-pub mod Cuts
 pub mod RangeGrammar
 pub mod LineFeeds
+pub mod Cuts
 pub mod PairCut
 pub mod FewBlocks
 pub mod Answered

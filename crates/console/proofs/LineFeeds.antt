@@ -16,11 +16,11 @@ are_lines (b ∷ bs) = go (eqb b 10) refl (are_lines bs)
     go true e m = subst (λ c. LinesAre (c ∷ bs) ([] ∷ lines_of bs)) (sym (eqb-true b 10 e)) (more [] bs (lines_of bs) tt m)
     go false e m = one_before b bs (lines_of bs) e m
 
-last_only : (b : ℕ) (bs : List ℕ) → NoFeed (b ∷ bs) → (b ∷ bs) ∷ [] ≡ lines_of (b ∷ bs)
+pub last_only : (b : ℕ) (bs : List ℕ) → NoFeed (b ∷ bs) → (b ∷ bs) ∷ [] ≡ lines_of (b ∷ bs)
 last_only b [] h = rw h.0
 last_only b (c ∷ cs) h = rw h.0 (ap (before b) (last_only c cs h.1))
 
-one_line : (l rest : List ℕ) → NoFeed l → l ∷ lines_of rest ≡ lines_of (l ++ (10 ∷ rest))
+pub one_line : (l rest : List ℕ) → NoFeed l → l ∷ lines_of rest ≡ lines_of (l ++ (10 ∷ rest))
 one_line [] rest h = refl
 one_line (b ∷ l) rest h = rw h.0 (ap (before b) (one_line l rest h.1))
 

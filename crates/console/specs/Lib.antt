@@ -1,5 +1,6 @@
 pub mod Lines
 pub mod RangeLines
+pub mod Failures
 pub mod Report
 pub mod Readings
 pub mod Verdicts

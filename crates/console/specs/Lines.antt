@@ -5,6 +5,11 @@ abbrev pub NoFeed : List ℕ → Type 0
 NoFeed [] = Unit {0}
 NoFeed (b ∷ bs) = ((b == 10) ≡ false) × NoFeed bs
 
+-- the first line of a text, and what is behind its line feed; behind a line that lacks it there is nothing
+pub data FirstLine : List ℕ → List ℕ → List ℕ → Type 0 where
+  fed : (l rest : List ℕ) → NoFeed l → FirstLine (l ++ (10 ∷ rest)) l rest
+  unfed : (b : ℕ) (bs : List ℕ) → NoFeed (b ∷ bs) → FirstLine (b ∷ bs) (b ∷ bs) []
+
 pub data LinesAre : List ℕ → List (List ℕ) → Type 0 where
   none : LinesAre [] []
   last : (b : ℕ) (bs : List ℕ) → NoFeed (b ∷ bs) → LinesAre (b ∷ bs) ((b ∷ bs) ∷ [])

@@ -1,12 +1,11 @@
 -- What is reported on an input, and its text. What was read of an input is computed in Readings; the law, as a relation, is in Law.
 use Rattle.std.specs.Prelude.{ℕ, List, ◌++◌, Some, None, codes, decimal, Option, slice_index_or}
 use Rattle.std.specs.Fmt.{signed_decimal}
-use Rattle.model.specs.declared.ending.Cause.{Cause}
-use Rattle.model.specs.declared.ending.Cause.TheVariants.{Arithmetic, Travel}
 use Rattle.model.specs.declared.range.Range.{Range}
 use Rattle.program.specs.Entry.{line_number, line_place}
 use Rattle.session.specs.Answers.{allow_number}
 use Rattle.sweep.specs.Sweeps.{Verdict, certified, uncertified}
+use Rattle.console.specs.Failures.{failure_text}
 use Rattle.console.specs.declared.refusal.Refusal.{Refusal}
 use Rattle.console.specs.declared.refusal.Refusal.TheVariants.{Input, RangeText, Allow as OfAllow, Line as OfLine, Open}
 use Rattle.console.specs.declared.report.Report.{Report}
@@ -55,13 +54,9 @@ hulls_text hs =
     ++ (codes "\nZ " ++ (hull_text (slice_index_or hs 2 None)
     ++ (codes "\nU " ++ hull_text (slice_index_or hs 3 None)))))))
 
-abbrev pub cause_text : Cause → List ℕ
-cause_text Arithmetic = codes "arithmetic"
-cause_text (Travel side) = codes "travel " ++ decimal side
-
 abbrev pub verdict_text : Verdict → List ℕ
 verdict_text (certified hs) = codes "certified" ++ hulls_text hs
-verdict_text (uncertified f) = codes "uncertified " ++ (decimal f.line ++ (codes " " ++ cause_text f.cause))
+verdict_text (uncertified f) = codes "uncertified " ++ failure_text f
 
 abbrev pub outcome_text : Outcome → List ℕ
 outcome_text (judged v) = verdict_text v

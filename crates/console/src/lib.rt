@@ -3,6 +3,7 @@
 #![tactic(auto)]
 
 mod asked;
+pub mod failure;
 pub mod input;
 pub mod lines;
 pub mod range_line;

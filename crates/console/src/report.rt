@@ -2,9 +2,10 @@
 ghost use Rattle.std.specs.Prelude.{◌≡◌, Some};
 ghost use Rattle.console.specs.Report.{said, hull_text, outcome_text};
 
+use crate::failure::FailureText;
 use crate::refusal::Refusal;
 use certify::refusal::Certificate;
-use model::ending::{Cause, Failure};
+use model::ending::Failure;
 use model::range::Range;
 use std::fmt;
 
@@ -55,10 +56,7 @@ impl fmt::Display for Report {
                 let [x, y, z, u] = certificate.hulls.map(Hull);
                 write!(f, "certified\nX {x}\nY {y}\nZ {z}\nU {u}")
             }
-            Report::Uncertified(Failure { line, cause }) => match cause {
-                Cause::Arithmetic => write!(f, "uncertified {line} arithmetic"),
-                Cause::Travel(side) => write!(f, "uncertified {line} travel {side}"),
-            },
+            Report::Uncertified(failure) => write!(f, "uncertified {}", FailureText(failure)),
             Report::Refused(Rejection { line, refusal }) => {
                 let number = refusal.number();
                 let place = refusal.place();

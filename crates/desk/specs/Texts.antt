@@ -1,22 +1,12 @@
 -- The texts of what answers carry.
 use Rattle.std.specs.Prelude.{ℕ, List, ◌++◌, Some, None, codes, decimal, Option, slice_index_or}
 use Rattle.std.specs.Fmt.{signed_decimal}
-use Rattle.model.specs.declared.ending.Cause.{Cause}
-use Rattle.model.specs.declared.ending.Cause.TheVariants.{Arithmetic, Travel}
 use Rattle.model.specs.declared.ending.Ending.{Ending}
 use Rattle.model.specs.declared.ending.Ending.TheVariants.{Ended, Running, Stopped}
-use Rattle.model.specs.declared.ending.Failure.{Failure}
 use Rattle.model.specs.declared.range.Range.{Range}
 use Rattle.model.specs.Axes.{Position}
+use Rattle.console.specs.Failures.{failure_text}
 use Rattle.calls.specs.Said.{Detail, nothing, place, parameter, failure, Said, done, certificate, came, went_on, commanded, ended, refused}
-
-abbrev pub cause_text : Cause → List ℕ
-cause_text Arithmetic = codes "arithmetic"
-cause_text (Travel s) = codes "travel " ++ decimal s
-
--- a line and why it fails
-abbrev pub failure_text : Failure → List ℕ
-failure_text f = decimal f.line ++ (codes " " ++ cause_text f.cause)
 
 abbrev pub ending_text : Ending → List ℕ
 ending_text Ended = codes "ended"

@@ -4,8 +4,9 @@ ghost use Rattle.desk.specs.declared.answer.Refusal.TheVariants.{Line, Allow, Ce
 ghost use Rattle.desk.specs.Answers.{refusal_number, detail, refusal_detail, reply_of, why, said, note_text};
 ghost use Rattle.desk.specs.Texts.{said_text};
 
-use crate::text::{Detail, FailureText, HullText};
+use crate::text::{Detail, HullText};
 use certify::refusal::{Certificate, CertifyRefusal};
+use console::failure::FailureText;
 use model::axes::Position;
 use model::ending::Ending;
 use program::refusal::LineRefusal;

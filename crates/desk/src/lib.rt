@@ -5,4 +5,5 @@
 pub mod answer;
 pub mod desk;
 pub mod entry;
+pub mod script;
 mod text;

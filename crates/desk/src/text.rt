@@ -1,27 +1,12 @@
 // The texts of what answers carry.
 ghost use Rattle.std.specs.Prelude.{Some};
 ghost use Rattle.desk.specs.Answers.{detail};
-ghost use Rattle.desk.specs.Texts.{failure_text, hull_text, detail_text};
+ghost use Rattle.desk.specs.Texts.{hull_text, detail_text};
 
-use model::ending::{Cause, Failure};
+use console::failure::FailureText;
+use model::ending::Failure;
 use model::range::Range;
 use std::fmt;
-
-// A line and why it fails.
-#[derive(Clone, Copy)]
-pub(crate) struct FailureText(pub(crate) Failure);
-
-impl fmt::Display for FailureText {
-    ghost output = { λ t. Some (failure_text t.0) };
-
-    fn fmt<W: fmt::Write>(&self, f: &mut fmt::Formatter<W>) -> fmt::Result {
-        let Failure { line, cause } = self.0;
-        match cause {
-            Cause::Arithmetic => write!(f, "{line} arithmetic"),
-            Cause::Travel(side) => write!(f, "{line} travel {side}"),
-        }
-    }
-}
 
 // The hull of an axis.
 #[derive(Clone, Copy)]
