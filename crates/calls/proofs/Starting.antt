@@ -1,38 +1,18 @@
 -- A start is accepted exactly where a certificate stands and no value lies outside its range.
-use Rattle.std.proofs.Common.{◌≡◌, ℕ, zero, suc, ◌<◌, Bool, true, false, cond, List, [], ◌∷◌, length, get_or, ℤ, pos, Some, None, Option, sym, refl, ap, ◌∙◌, true≢false, arith}
-use lib.Signed.{le_z}
-use Rattle.std.proofs.lemmas.Int.{ints}
-use Rattle.std.proofs.lemmas.Bool.{and_parts, and_from}
+use Rattle.std.proofs.Common.{◌≡◌, ℕ, suc, ◌<◌, Bool, true, cond, List, [], ◌∷◌, length, get_or, ℤ, pos, Some, None, Option, sym, refl, ap, ◌∙◌, true≢false, arith}
 use Rattle.model.specs.declared.range.Range.{Range}
-use Rattle.model.specs.Environments.{Lies, lies, full, parameters}
+use Rattle.model.specs.Environments.{Lies, full, parameters}
 use Rattle.session.specs.Answers.{StartAnswer, outside_from, by_outside, start_answer}
 use Rattle.session.specs.Promises.{Hulls}
+use Rattle.session.proofs.Outside.{none_outside}
 use Rattle.calls.specs.Law.{Standing, AllLie, Starts, accepted}
 use Rattle.calls.specs.Said.{by_start}
+use Rattle.model.proofs.Numbers.{in_lies}
 
-test_lies : (v : ℤ) (r : Range) → lies v r ≡ true → Lies v r
-test_lies v r h =
-    let q = and_parts (le_z r.lo v) (le_z v r.hi) h in
-    record { low = grind (arith, ints); high = grind (arith, ints) }
-
-lies_tests : (v : ℤ) (r : Range) → Lies v r → lies v r ≡ true
-lies_tests v r h = and_from (le_z r.lo v) (le_z v r.hi) (grind (arith, ints)) (grind (arith, ints))
-
--- a value that lies in its range is passed over
-if_inside : (n : ℕ) (t : Bool) (o : Option ℕ) → cond t o (Some n) ≡ None → (t ≡ true) × (o ≡ None)
-if_inside n true o e = (refl, e)
-if_inside n false o e = absurd (let z : ◌≡◌ {A = ℕ} 0 1 = cc in omega arith)
-
-all_inside : (n : ℕ) (rs : List Range) (vs : List ℤ) → length vs ≡ length rs → outside_from n rs vs ≡ None → (k : ℕ) → k < length rs → Lies (get_or vs k (pos 0)) (get_or rs k full)
-all_inside n [] vs l e k h = absurd (omega arith)
-all_inside n (r ∷ rs) [] l e k h = absurd (omega arith)
-all_inside n (r ∷ rs) (v ∷ vs) l e zero h = test_lies v r (if_inside n (lies v r) (outside_from (suc n) rs vs) e).0
-all_inside n (r ∷ rs) (v ∷ vs) l e (suc k) h = all_inside (suc n) rs vs (omega arith) (if_inside n (lies v r) (outside_from (suc n) rs vs) e).1 k (omega arith)
-
-none_outside : (n : ℕ) (rs : List Range) (vs : List ℤ) → ((k : ℕ) → k < length rs → Lies (get_or vs k (pos 0)) (get_or rs k full)) → outside_from n rs vs ≡ None
-none_outside n [] vs h = refl
-none_outside n (r ∷ rs) [] h = refl
-none_outside n (r ∷ rs) (v ∷ vs) h = ap (λ (t : Bool). cond t (outside_from (suc n) rs vs) (Some n)) (lies_tests v r (h 0 (omega arith))) ∙ none_outside (suc n) rs vs (λ k i. h (suc k) (omega arith))
+inside_none : (n : ℕ) (rs : List Range) (vs : List ℤ) → ((k : ℕ) → k < length rs → Lies (get_or vs k (pos 0)) (get_or rs k full)) → outside_from n rs vs ≡ None
+inside_none n [] vs h = refl
+inside_none n (r ∷ rs) [] h = refl
+inside_none n (r ∷ rs) (v ∷ vs) h = ap (λ (t : Bool). cond t (outside_from (suc n) rs vs) (Some n)) (in_lies v r (h 0 (omega arith))) ∙ inside_none (suc n) rs vs (λ k i. h (suc k) (omega arith))
 
 accepted_inside : (o : Option ℕ) → accepted (by_start (by_outside o)) ≡ true → o ≡ None
 accepted_inside None h = refl
@@ -41,11 +21,11 @@ accepted_inside (Some n) h = absurd (true≢false (sym h))
 module _ (rs : List Range) (vs : List ℤ) (six-ranges : length rs ≡ parameters) (six-values : length vs ≡ parameters) where
   accepted_start : (c : Option Hulls) → accepted (by_start (start_answer c rs vs)) ≡ true → (hs : Hulls) × (c ≡ Some hs) × AllLie vs rs
   accepted_start None h = absurd (true≢false (sym h))
-  accepted_start (Some hs) h = (hs, refl, λ k i. all_inside 1 rs vs (omega arith) (accepted_inside (outside_from 1 rs vs) h) k (omega arith))
+  accepted_start (Some hs) h = (hs, refl, λ k i. none_outside 1 rs vs (accepted_inside (outside_from 1 rs vs) h) k (omega arith) (omega arith))
 
   start_accepted : (c : Option Hulls) → (hs : Hulls) × (c ≡ Some hs) × AllLie vs rs → accepted (by_start (start_answer c rs vs)) ≡ true
   start_accepted None h = absurd (let e : None ≡ Some h.0 = h.1 in let z : ◌≡◌ {A = ℕ} 0 1 = cc in omega arith)
-  start_accepted (Some hs) h = ap (λ (o : Option ℕ). accepted (by_start (by_outside o))) (none_outside 1 rs vs (λ k i. h.2 k (omega arith)))
+  start_accepted (Some hs) h = ap (λ (o : Option ℕ). accepted (by_start (by_outside o))) (inside_none 1 rs vs (λ k i. h.2 k (omega arith)))
 
 pub starts_by : (w : Standing) (vs : List ℤ) (s : StartAnswer) → length w.allowed ≡ parameters → length vs ≡ parameters → s ≡ start_answer w.certificate w.allowed vs → Starts w vs (by_start s)
 starts_by w vs s six-ranges six-values e = record {

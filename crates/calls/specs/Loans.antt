@@ -1,5 +1,5 @@
 -- What is lent to a list of calls stays lent to it, so that no place for an answer is lost, and what is not played stays as it was.
-use Rattle.std.specs.Prelude.{◌≡◌, ℕ, ◌<◌, List, length, drop, slice_index_or}
+use Rattle.std.specs.Prelude.{◌≡◌, ℕ, ◌<◌, List, length, drop, min, slice_index_or}
 use Rattle.std.specs.Borrow.{MutBor}
 
 -- the same memory is lent, as long as it was
@@ -15,3 +15,7 @@ pub record EachStays {C A : Type 0} (stays : C → C → A → Type 0) (n : ℕ)
   pub played : EachLeft stays n cs ds rs
   pub calls : drop n ds ≡ drop n cs
   pub answers : drop n rs ≡ drop n qs
+
+-- a tape: as many lists as there are answers for are played, each is left as it says, and the rest is as it was
+abbrev pub TapeStays : {C A : Type 0} → (C → C → A → Type 0) → MutBor (List C) → MutBor (List C) → MutBor (List A) → MutBor (List A) → Type 0
+TapeStays stays cs ds qs rs = SameLoan cs ds × SameLoan qs rs × EachStays stays (min (length cs.now) (length qs.now)) cs.now ds.now qs.now rs.now

@@ -1,7 +1,6 @@
 // Lists of one kind in lent memory, played one after another.
-ghost use Rattle.std.specs.Prelude.{length, min};
 ghost use Rattle.calls.specs.Answers.{recorded};
-ghost use Rattle.calls.specs.Loans.{SameLoan, EachStays};
+ghost use Rattle.calls.specs.Loans.{TapeStays};
 
 use crate::calls::Calls;
 use session::session::Session;
@@ -22,7 +21,7 @@ where
 
     ghost events = { λ c d _. recorded C.Calls.events c.calls.now d.calls.now d.answers.now };
 
-    ghost stays = { λ c d _. SameLoan c.calls d.calls × SameLoan c.answers d.answers × EachStays C.Calls.stays (min (length c.calls.now) (length c.answers.now)) c.calls.now d.calls.now c.answers.now d.answers.now };
+    ghost stays = { λ c d _. TapeStays C.Calls.stays c.calls d.calls c.answers d.answers };
 
     fn play<T: Travel>(&mut self, session: &mut Session<T>) -> () {
         for n in 0..self.calls.len().min(self.answers.len()) {

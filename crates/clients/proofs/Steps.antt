@@ -6,39 +6,32 @@ use Rattle.model.specs.Axes.{Position}
 use Rattle.model.specs.declared.side.Side.{Side}
 use Rattle.session.specs.Answers.{start_said}
 use Rattle.session.specs.Promises.{Hulls, InCertificate}
-use Rattle.session.specs.declared.progress.Progress.{Progress}
 use Rattle.session.specs.declared.progress.Progress.TheVariants.{WentOn, Commanded, Ended}
 use Rattle.session.specs.declared.refusal.StartRefusal.{StartRefusal}
-use Rattle.session.specs.declared.refusal.StepRefusal.{StepRefusal}
 use Rattle.calls.specs.Law.{Event, Lawfully, Starts, accepted, start, standing, step, certificate_of}
 use Rattle.calls.specs.Said.{Said, by_start}
 use Rattle.calls.specs.Answers.{event, by_stepped, recorded}
 use Rattle.calls.proofs.Consequences.{later, lawful_rest, later_reverse, begun_goes, steps_accepted, CommandsWithin, steps_inside}
 use Rattle.clients.specs.Commands.{CommandsIn}
-
-abbrev pub Answer : Type 0
-Answer = Result Progress StepRefusal
+use Rattle.clients.specs.Lists.{Stepping, stepped}
 
 module _ {S : Type 0} where
-  abbrev pub stepped : S → S → Answer → List Event
-  stepped c d r = event step (by_stepped r) ∷ []
-
   -- as many steps are made as there are answers for
-  pub recorded_steps : (cs ds : List S) (rs : List Answer) → length ds ≡ length cs → recorded stepped cs ds rs ≡ map (event step) (map by_stepped (take (length cs) rs))
+  pub recorded_steps : (cs ds : List S) (rs : List Stepping) → length ds ≡ length cs → recorded stepped cs ds rs ≡ map (event step) (map by_stepped (take (length cs) rs))
   recorded_steps [] ds rs e = refl
   recorded_steps (c ∷ cs) [] rs e = absurd (omega arith)
   recorded_steps (c ∷ cs) (d ∷ ds) [] e = refl
   recorded_steps (c ∷ cs) (d ∷ ds) (r ∷ rs) e = ap (λ (es : List Event). event step (by_stepped r) ∷ es) (recorded_steps cs ds rs (omega arith))
 
-module _ (P : Said → Type 0) (Q : Answer → Type 0) (f : (r : Answer) → P (by_stepped r) → Q r) where
-  each_answer : (rs : List Answer) → AllByRecursion P (map by_stepped rs) → AllByRecursion Q rs
+module _ (P : Said → Type 0) (Q : Stepping → Type 0) (f : (r : Stepping) → P (by_stepped r) → Q r) where
+  each_answer : (rs : List Stepping) → AllByRecursion P (map by_stepped rs) → AllByRecursion Q rs
   each_answer [] h = tt
   each_answer (r ∷ rs) h = (f r h.0, each_answer rs h.1)
 
-  all_answers : (rs : List Answer) → AllByRecursion P (map by_stepped rs) → All Q rs
+  all_answers : (rs : List Stepping) → AllByRecursion P (map by_stepped rs) → All Q rs
   all_answers rs h = All-from_recursion Q rs (each_answer rs h)
 
-accepted_ok : (r : Answer) → accepted (by_stepped r) ≡ true → is_ok r ≡ true
+accepted_ok : (r : Stepping) → accepted (by_stepped r) ≡ true → is_ok r ≡ true
 accepted_ok (Ok s) e = refl
 accepted_ok (Err n) e = let z : ◌≡◌ {A = ℕ} 0 1 = cc in absurd (omega arith)
 
@@ -47,14 +40,14 @@ ok_accepted (Ok u) e = refl
 ok_accepted (Err n) e = let z : ◌≡◌ {A = ℕ} 0 1 = cc in absurd (omega arith)
 
 module _ (region : Position → Type 0) (sides : List Side) (home : Position) where
-  commands_in : (P : Position → Type 0) (hs : Option Hulls) → ((p : Position) → region p × InCertificate p hs → P p) → (r : Answer) → CommandsWithin region sides home hs (by_stepped r) → CommandsIn P r
+  commands_in : (P : Position → Type 0) (hs : Option Hulls) → ((p : Position) → region p × InCertificate p hs → P p) → (r : Stepping) → CommandsWithin region sides home hs (by_stepped r) → CommandsIn P r
   commands_in P hs f (Ok WentOn) h = tt
   commands_in P hs f (Ok (Commanded p)) h = f p (h p refl)
   commands_in P hs f (Ok Ended) h = tt
   commands_in P hs f (Err n) h = tt
 
   -- ---- a start and then a tape of steps, after these calls
-  module _ {S : Type 0} (past : List Event) (vs : List ℤ) (begun : Result (Unit {0}) StartRefusal) (cs ds : List S) (rs : List Answer) (same : length ds ≡ length cs) where
+  module _ {S : Type 0} (past : List Event) (vs : List ℤ) (begun : Result (Unit {0}) StartRefusal) (cs ds : List S) (rs : List Stepping) (same : length ds ≡ length cs) where
     abbrev started : Event
     started = event (start vs) (by_start (start_said begun))
 
@@ -71,7 +64,7 @@ module _ (region : Position → Type 0) (sides : List Side) (home : Position) wh
     steps_in P hs e f law = all_answers (CommandsWithin region sides home hs) (CommandsIn P) (commands_in P hs f) (take (length cs) rs) (steps_inside region sides home hs (started ∷ past) _ e (law_after law))
 
   -- ---- after any calls
-  pub steps_kept : {S : Type 0} (es : List Event) (vs : List ℤ) (begun : Result (Unit {0}) StartRefusal) (cs ds : List S) (rs : List Answer) → length ds ≡ length cs
+  pub steps_kept : {S : Type 0} (es : List Event) (vs : List ℤ) (begun : Result (Unit {0}) StartRefusal) (cs ds : List S) (rs : List Stepping) → length ds ≡ length cs
       → Lawfully region sides home [] (es ++ (event (start vs) (by_start (start_said begun)) ∷ recorded stepped cs ds rs))
       → Starts (standing home (reverse es)) vs (by_start (start_said begun)) × (IsOk begun → AllPass is_ok (take (length cs) rs)) × All (CommandsIn region) (take (length cs) rs)
   steps_kept es vs begun cs ds rs same law =

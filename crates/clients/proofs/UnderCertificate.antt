@@ -12,9 +12,10 @@ use Rattle.calls.specs.Said.{by_start, by_verdict}
 use Rattle.calls.specs.Answers.{event, recorded}
 use Rattle.calls.proofs.Consequences.{later, lawful_rest, later_reverse}
 use Rattle.clients.specs.Commands.{CommandsIn}
-use Rattle.clients.proofs.Steps.{Answer, stepped, steps_in}
+use Rattle.clients.specs.Lists.{Stepping, stepped}
+use Rattle.clients.proofs.Steps.{steps_in}
 
-module _ (region : Position → Type 0) (sides : List Side) (home : Position) {S : Type 0} (d : AnyDomain) (n : ℕ) (k : CertifyAnswer) (vs : List ℤ) (begun : Result (Unit {0}) StartRefusal) (cs ds : List S) (rs : List Answer) (same : length ds ≡ length cs) where
+module _ (region : Position → Type 0) (sides : List Side) (home : Position) {S : Type 0} (d : AnyDomain) (n : ℕ) (k : CertifyAnswer) (vs : List ℤ) (begun : Result (Unit {0}) StartRefusal) (cs ds : List S) (rs : List Stepping) (same : length ds ≡ length cs) where
   abbrev calls : CertifyAnswer → List Event
   calls j = event (certify d n) (by_verdict j) ∷ (event (start vs) (by_start (start_said begun)) ∷ recorded stepped cs ds rs)
 

@@ -1,2 +1,3 @@
 pub mod Commands
 pub mod Exactness
+pub mod Lists

@@ -4,3 +4,6 @@ pub mod Choosing
 pub mod DryRuns
 pub mod Table
 pub mod Ends
+pub mod NumberWords
+pub mod Spelling
+pub mod Meaning

@@ -2,3 +2,4 @@ pub mod Tables
 pub mod Words
 pub mod Numbers
 pub mod Commands
+pub mod Grammar

@@ -17,6 +17,7 @@ ghost use Rattle.std.specs.Prelude.{◌≡◌, drop, option_map};
 ghost use Rattle.model.specs.Environments.{parameters};
 ghost use Rattle.command.specs.Words.{arguments};
 ghost use Rattle.command.specs.Numbers.{numbers_of};
+ghost use Rattle.command.specs.Grammar.{TheCommand};
 ghost use Rattle.command.specs.Commands.{meant, ends_of, as_gantry, as_beam, as_allow, as_start, as_dry, as_certify, alone, chosen, command_of};
 
 use crate::domain_name::{DomainName, domain_of};
@@ -171,11 +172,19 @@ fn command_by(word: Word, text: &[u8]) -> Option<Command>
     }
 }
 
-// The command that the line is, if it is one.
-pub fn read_command(line: &[u8]) -> Option<Command>
+// The command of the line's words.
+fn by_words(line: &[u8]) -> Option<Command>
     ensures { option_map meant result ≡ command_of line.now }
 {
     let n = len_until(line, b' ');
     let word = word_of(&line[0..n])?;
     command_by(word, &line[n..])
+}
+
+// The command that the line is, exactly if the grammar has it.
+pub fn read_command(line: &[u8]) -> Option<Command>
+    ensures law { TheCommand line.now (option_map meant result) }
+    ensures is { option_map meant result ≡ command_of line.now }
+{
+    by_words(line)
 }

@@ -1,25 +1,23 @@
 -- What `checked` gives, and when two numbers make a class.
 use Rattle.std.specs.Prelude.{◌≡◌, ℕ, Bool, true, false, ◌&&◌, ℤ, pos, negsuc, ◌-ℤ◌, ◌<ℤ◌, Some, None, int_le, refl}
-use Rattle.std.proofs.Common.{◌∙◌, ap, ap₂, sym, arith}
-use Rattle.std.proofs.lemmas.Int.{ints}
+use Rattle.std.proofs.Common.{◌∙◌, ap, ap₂, sym}
 use Rattle.divisibility.specs.Multiples.{Multiple}
 use Rattle.congruences.specs.Members.{InSome}
 use Rattle.congruences.specs.Settled.{checked, pick}
 use Rattle.congruences.specs.Shape.{proper}
 use Rattle.congruences.specs.declared.congruence.Congruence.{Congruence}
 use Rattle.congruences.specs.Same.{congruence_same}
-
-pub clash : {P : Type 0} (b : Bool) → b ≡ true → b ≡ false → P
-clash {P} b p q = let z : ◌≡◌ {A = ℕ} 0 1 = cc in let w : ⊥ = omega arith in elim w [ ]
+use Rattle.model.proofs.Numbers.{lt_false}
+use Rattle.std.proofs.lemmas.Bool.{both_ways}
 
 pick_some : (m : ℕ) (r : ℤ) (b : Bool) (e : proper m r ≡ b) (c : Congruence) → c.modulus ≡ m → c.residue ≡ r → proper m r ≡ true → pick m r b e ≡ Some c
 unfolding pick
 pick_some m r true e c p q h = ap Some (congruence_same _ _ (sym p) (sym q))
-pick_some m r false e c p q h = clash (proper m r) h e
+pick_some m r false e c p q h = absurd (both_ways (proper m r) e h)
 
 pick_none : (m : ℕ) (r : ℤ) (b : Bool) (e : proper m r ≡ b) → proper m r ≡ false → pick m r b e ≡ None
 unfolding pick
-pick_none m r true e h = clash (proper m r) e h
+pick_none m r true e h = absurd (both_ways (proper m r) h e)
 pick_none m r false e h = refl
 
 pub checked_some : (m : ℕ) (r : ℤ) (c : Congruence) → c.modulus ≡ m → c.residue ≡ r → checked m r ≡ Some c
@@ -33,7 +31,7 @@ checked_none m r h = pick_none m r (proper m r) refl h
 pick_in : (m : ℕ) (r v : ℤ) (b : Bool) (e : proper m r ≡ b) → proper m r ≡ true → Multiple m (v -ℤ r) → InSome v (pick m r b e)
 unfolding pick
 pick_in m r v true e h k = k
-pick_in m r v false e h k = clash (proper m r) h e
+pick_in m r v false e h k = absurd (both_ways (proper m r) e h)
 
 pub checked_in : (m : ℕ) (r v : ℤ) → proper m r ≡ true → Multiple m (v -ℤ r) → InSome v (checked m r)
 unfolding checked
@@ -48,15 +46,12 @@ pub checked_out : (m : ℕ) (r v : ℤ) → InSome v (checked m r) → Multiple 
 unfolding checked
 checked_out m r v h = pick_out m r v (proper m r) refl h
 
-pub le_no : (a b : ℤ) → b <ℤ a → int_le a b ≡ false
-le_no a b h = grind (arith, ints)
-
 pub and_no : (b : Bool) → (b && false) ≡ false
 and_no true = refl
 and_no false = refl
 
 pub single_low : (r : ℤ) → r <ℤ negsuc 9999999 → proper 0 r ≡ false
-single_low r h = rw (le_no (negsuc 9999999) r h)
+single_low r h = rw (lt_false (negsuc 9999999) r h)
 
 pub single_high : (r : ℤ) → pos 10000000 <ℤ r → proper 0 r ≡ false
-single_high r h = rw (le_no r (pos 10000000) h) (and_no (int_le (negsuc 9999999) r))
+single_high r h = rw (lt_false r (pos 10000000) h) (and_no (int_le (negsuc 9999999) r))

@@ -28,10 +28,10 @@ use Rattle.congruences.specs.Results.{fits, modulus_of, results}
 use Rattle.congruences.specs.Settled.{settled}
 use Rattle.congruences.specs.Singles.{single}
 use Rattle.congruences.specs.declared.congruence.Congruence.{Congruence}
-use Rattle.congruences.specs.Checks.{checked_some, clash}
-use Rattle.congruences.specs.Keeps.{eq_yes}
+use Rattle.congruences.specs.Checks.{checked_some}
+use Rattle.model.proofs.Numbers.{same_is}
 use Rattle.congruences.specs.Pinning.{narrow_pin, narrow_single, range_single}
-use Rattle.congruences.specs.Proper.{le_yes}
+use Rattle.model.proofs.Numbers.{le_true}
 use Rattle.congruences.specs.Same.{congruence_same}
 use Rattle.congruences.specs.Settles.{zero_same}
 use Rattle.congruences.specs.SinglesLemmas.{just, single_is}
@@ -69,29 +69,29 @@ agrees_not : (m n : ℤ) → same m n ≡ false → agrees 0 m n ≡ false
 agrees_not m n e = not_so (agrees 0 m n) (λ h. both_ways (same m n) e (eq_same m n (zero_same m n (agrees_yes 0 m n h))))
   where
     eq_same : (a b : ℤ) → a ≡ b → same a b ≡ true
-    eq_same a b k = and_from (int_le a b) (int_le b a) (le_yes a b (omega (arith, ints))) (le_yes b a (omega (arith, ints)))
+    eq_same a b k = and_from (int_le a b) (int_le b a) (le_true a b (omega (arith, ints))) (le_true b a (omega (arith, ints)))
 
 abbrev pairs : Congruence → Congruence → Option (Pair Congruence)
 pairs x y = Some (record { left = x; right = y })
 
 lone_yes : (m n : ℤ) (p : Lies m full) (q : Lies n full) (b : Bool) → b ≡ true → m ≡ n → doubled (cond b (Some (just m p)) None) ≡ pairs (just m p) (just n q)
 lone_yes m n p q true h e = ap (pairs (just m p)) (congruence_same (just m p) (just n q) refl e)
-lone_yes m n p q false h e = clash false h refl
+lone_yes m n p q false h e = absurd (both_ways false refl h)
 
 lone_no : (x : Congruence) (b : Bool) → b ≡ false → doubled (cond b (Some x) None) ≡ None
-lone_no x true h = clash true refl h
+lone_no x true h = absurd (both_ways true h refl)
 lone_no x false h = refl
 
 unless_yes : (x y : Congruence) (b : Bool) → b ≡ true → cond (not b) None (pairs x y) ≡ pairs x y
 unless_yes x y true h = refl
-unless_yes x y false h = clash false h refl
+unless_yes x y false h = absurd (both_ways false refl h)
 
 unless_no : (x y : Congruence) (b : Bool) → b ≡ false → cond (not b) None (pairs x y) ≡ None
-unless_no x y true h = clash true refl h
+unless_no x y true h = absurd (both_ways true h refl)
 unless_no x y false h = refl
 
 just_yes : (r : Rel) (m n : ℤ) (p : Lies m full) (q : Lies n full) → compare r m n ≡ true → kept r (just m p) (just n q) ≡ pairs (just m p) (just n q)
-just_yes Eq m n p q e = let k = eq_yes m n e in lone_yes m n p q (agrees 0 m n) (agrees_same m n k) k
+just_yes Eq m n p q e = let k = same_is m n e in lone_yes m n p q (agrees 0 m n) (agrees_same m n k) k
 just_yes Ne m n p q e = unless_yes (just m p) (just n q) (compare Ne m n) e
 just_yes Lt m n p q e = unless_yes (just m p) (just n q) (compare Lt m n) e
 just_yes Le m n p q e = unless_yes (just m p) (just n q) (compare Le m n) e
@@ -117,7 +117,7 @@ meet_single n l = ap (λ (x : Congruence). common x x) (single_is n l) ∙ (at (
   where
     at : (b : Bool) → b ≡ true → cond b (Some (just n l)) None ≡ Some (just n l)
     at true h = refl
-    at false h = clash false h refl
+    at false h = absurd (both_ways false refl h)
 
 pub exact : ExactSets congruences
 exact = record {

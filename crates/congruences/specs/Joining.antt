@@ -24,6 +24,10 @@ rest m r = cond (m == 0) r (remainder r m)
 pub join_small : (x y : Congruence) → hull_modulus x y ≤ 20000000
 join_small x y = by x.modulus y.modulus (gcd x.modulus y.modulus) (gcd_is x.modulus y.modulus) (gcd_is (gcd x.modulus y.modulus) (unsigned_abs (x.residue -ℤ y.residue))).left (bounded x) (bounded y)
   where
+    -- a divisor of a divisor
+    up_to : (a g : ℕ) → 0 < a → a ≤ 20000000 → Multiple g (pos a) → Multiple (hull_modulus x y) (pos g) → hull_modulus x y ≤ 20000000
+    up_to a g z l u v = let w = mult_bound (hull_modulus x y) a z (mult_trans (hull_modulus x y) g (pos a) v u) in omega arith
+
     both : (r s : ℤ) → Lies r full → Lies s full → unsigned_abs (r -ℤ s) ≤ 20000000
     both r s p q = omega (arith, ints)
 
@@ -34,13 +38,7 @@ join_small x y = by x.modulus y.modulus (gcd x.modulus y.modulus) (gcd_is x.modu
         (gcd_bound x.modulus y.modulus (gcd x.modulus y.modulus) 20000000 (gcd_is x.modulus y.modulus) (bounded x).small (bounded y).small)
         (both x.residue y.residue (p.single refl) (q.single refl))
     by (suc m) n g h k p q = up_to (suc m) g (omega arith) p.small h.left k
-      where
-        up_to : (a g : ℕ) → 0 < a → a ≤ 20000000 → Multiple g (pos a) → Multiple (hull_modulus x y) (pos g) → hull_modulus x y ≤ 20000000
-        up_to a g z l u v = let w = mult_bound (hull_modulus x y) a z (mult_trans (hull_modulus x y) g (pos a) v u) in omega arith
     by zero (suc n) g h k p q = up_to (suc n) g (omega arith) q.small h.right k
-      where
-        up_to : (a g : ℕ) → 0 < a → a ≤ 20000000 → Multiple g (pos a) → Multiple (hull_modulus x y) (pos g) → hull_modulus x y ≤ 20000000
-        up_to a g z l u v = let w = mult_bound (hull_modulus x y) a z (mult_trans (hull_modulus x y) g (pos a) v u) in omega arith
 
 -- of modulus 0 both are single, so the residue is legal
 join_single : (x y : Congruence) → hull_modulus x y ≡ 0 → x.modulus ≡ 0

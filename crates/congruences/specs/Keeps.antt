@@ -1,10 +1,9 @@
 -- Every pair of members that meets a condition is left.
-use Rattle.std.specs.Prelude.{◌≡◌, ℕ, Bool, true, false, cond, not, ◌&&◌, ℤ, ◌-ℤ◌, Some, None, Option, ◌==◌, int_le, refl}
-use Rattle.std.proofs.Common.{◌∙◌, ap₂, subst, sym, arith, eqb-true}
-use Rattle.std.proofs.lemmas.Int.{ints}
+use Rattle.std.specs.Prelude.{◌≡◌, ℕ, Bool, true, false, cond, not, ◌&&◌, ℤ, ◌-ℤ◌, Some, None, Option, ◌==◌, refl}
+use Rattle.std.proofs.Common.{◌∙◌, ap₂, subst, sym, eqb-true}
 use Rattle.std.proofs.lemmas.Bool.{and_parts, both_ways, not-true}
 use Rattle.model.specs.Environments.{Lies, full}
-use Rattle.model.specs.Values.{compare, same}
+use Rattle.model.specs.Values.{compare}
 use Rattle.model.specs.declared.expression.Rel.{Rel}
 use Rattle.model.specs.declared.expression.Rel.TheVariants.{Eq, Ge, Gt, Le, Lt, Ne}
 use Rattle.number_sets.specs.Sets.{HasPair}
@@ -16,9 +15,7 @@ use Rattle.congruences.specs.Numbers.{congruences}
 use Rattle.congruences.specs.declared.congruence.Congruence.{Congruence}
 use Rattle.congruences.specs.Settles.{zero_same}
 use Rattle.congruences.specs.Sharing.{common_shared}
-
-pub eq_yes : (a b : ℤ) → same a b ≡ true → a ≡ b
-eq_yes a b h = let p = and_parts (int_le a b) (int_le b a) h in let q = p.0 in let r = p.1 in omega (arith, ints)
+use Rattle.model.proofs.Numbers.{same_is}
 
 doubled_in : (v : ℤ) (o : Option Congruence) → InSome v o → HasPair congruences (doubled o) v v
 doubled_in v None h = h
@@ -40,7 +37,7 @@ unless_in r u v x y m h k = unless_by r u v x y (fails r x y) refl m h k
 
 pub kept_in : (r : Rel) (u v : ℤ) (x y : Congruence) → Lies u full → compare r u v ≡ true → In u x → In v y → HasPair congruences (kept r x y) u v
 kept_in Eq u v x y l m h k =
-    let e = eq_yes u v m in
+    let e = same_is u v m in
     subst (λ (w : ℤ). HasPair congruences (doubled (common x y)) u w) e (doubled_in u (common x y) ((common_shared x y).all u l h (subst (λ (w : ℤ). In w y) (sym e) k)))
 kept_in Ne u v x y l m h k = unless_in Ne u v x y m h k
 kept_in Lt u v x y l m h k = unless_in Lt u v x y m h k

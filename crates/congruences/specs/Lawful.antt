@@ -10,7 +10,7 @@ use Rattle.model.specs.declared.expression.Op.{Op}
 use Rattle.model.specs.declared.side.Factor.{Factor}
 use Rattle.model.specs.declared.side.Factor.TheVariants.{Minus, Plus, Zero}
 use Rattle.model.specs.declared.side.Sign.{Sign}
-use Rattle.domain.specs.Environments.{lies_in, true_le}
+use Rattle.model.proofs.Numbers.{lies_in, true_le}
 use Rattle.number_sets.specs.Sets.{HasSome, LawfulSets}
 use Rattle.congruences.specs.Bounds.{bounded_by, settles}
 use Rattle.congruences.specs.Commons.{common}

@@ -12,7 +12,7 @@ use Rattle.congruences.specs.Ranges.{Found, Spans, ends, lower, narrowed, narrow
 use Rattle.congruences.specs.Settled.{checked}
 use Rattle.congruences.specs.declared.congruence.Congruence.{Congruence}
 use Rattle.congruences.specs.Checks.{checked_in}
-use Rattle.congruences.specs.Keeps.{eq_yes}
+use Rattle.model.proofs.Numbers.{same_is}
 use Rattle.congruences.specs.Proper.{proper_single}
 use Rattle.congruences.specs.Ranging.{Ended, ends_found}
 
@@ -41,7 +41,7 @@ found_lies c z e f =
 
 narrow_by : (c : Congruence) (v : ℤ) (e : Range) (b : Bool) → same e.lo e.hi ≡ b → Lies e.lo full → In v c → e.lo ≤ℤ v → v ≤ℤ e.hi → InSome v (cond b (checked 0 e.lo) (Some c))
 narrow_by c v e true q l h a b =
-    let s = eq_yes e.lo e.hi q in
+    let s = same_is e.lo e.hi q in
     checked_in 0 e.lo v (proper_single e.lo l) (moved 0 (pos 0) (v -ℤ e.lo) (omega (arith, ints)) (mult_zero 0))
 narrow_by c v e false q l h a b = h
 

@@ -2,7 +2,7 @@
 use Rattle.std.specs.Prelude.{◌≡◌, Bool, true, false, cond, ℤ, pos, ◌≤ℤ◌, Some, None, Option, int_le, refl}
 use Rattle.std.proofs.Common.{◌∙◌, ap, sym, arith}
 use Rattle.std.proofs.lemmas.Int.{clamps, ints}
-use Rattle.std.proofs.lemmas.Bool.{and_from}
+use Rattle.std.proofs.lemmas.Bool.{both_ways, and_from}
 use Rattle.model.specs.Environments.{Lies, full}
 use Rattle.model.specs.Values.{same}
 use Rattle.model.specs.declared.range.Range.{Range}
@@ -11,9 +11,9 @@ use Rattle.congruences.specs.Ranges.{Spans, ends, lower, narrowed, narrowed_to, 
 use Rattle.congruences.specs.Settled.{checked}
 use Rattle.congruences.specs.Singles.{single}
 use Rattle.congruences.specs.declared.congruence.Congruence.{Congruence}
-use Rattle.congruences.specs.Checks.{checked_some, clash}
+use Rattle.congruences.specs.Checks.{checked_some}
 use Rattle.congruences.specs.Narrows.{cut_high, cut_low}
-use Rattle.congruences.specs.Proper.{le_yes}
+use Rattle.model.proofs.Numbers.{le_true}
 use Rattle.congruences.specs.Ranging.{Ended, ends_found}
 use Rattle.congruences.specs.Same.{same_range}
 use Rattle.congruences.specs.Settles.{zero_same}
@@ -23,7 +23,7 @@ use Rattle.domain.specs.Lattice.{single as point}
 -- what was found in the range is n alone
 pinned_to : (x : Congruence) (n : ℤ) (l : Lies n full) (b : Bool) (e : Range) → same e.lo e.hi ≡ b → e.lo ≡ n → e.hi ≡ n → cond b (checked 0 e.lo) (Some x) ≡ Some (single n)
 pinned_to x n l true e h p q = checked_some 0 e.lo (just n l) refl (sym p) ∙ ap Some (sym (single_is n l))
-pinned_to x n l false e h p q = clash (same e.lo e.hi) (and_from (int_le e.lo e.hi) (int_le e.hi e.lo) (le_yes e.lo e.hi (omega (arith, ints))) (le_yes e.hi e.lo (omega (arith, ints)))) h
+pinned_to x n l false e h p q = absurd (both_ways (same e.lo e.hi) h (and_from (int_le e.lo e.hi) (int_le e.hi e.lo) (le_true e.lo e.hi (omega (arith, ints))) (le_true e.hi e.lo (omega (arith, ints)))))
 
 pinned : (x : Congruence) (lo hi n : ℤ) (l : Lies n full) (o : Option Range) → Ended x lo hi o → In n x → lo ≤ℤ n → n ≤ℤ hi → ((e : Range) → Spans x lo hi e → (e.lo ≡ n) × (e.hi ≡ n)) → narrowed_to x o ≡ Some (single n)
 pinned x lo hi n l None f h a b k = absurd (f n h a b)

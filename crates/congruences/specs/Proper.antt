@@ -6,23 +6,21 @@ use Rattle.std.proofs.lemmas.Bool.{and_parts, eqb-false}
 use Rattle.model.specs.Environments.{Lies, full}
 use Rattle.congruences.specs.Shape.{proper}
 use Rattle.congruences.specs.declared.congruence.Congruence.{Congruence}
-
-pub le_yes : (a b : ℤ) → a ≤ℤ b → int_le a b ≡ true
-le_yes a b h = sym (omega (arith, ints))
+use Rattle.model.proofs.Numbers.{le_true}
 
 pub lt_yes : (a b : ℤ) → a <ℤ b → int_lt a b ≡ true
 lt_yes a b h = sym (omega (arith, ints))
 
 -- a single number
 pub proper_single : (r : ℤ) → Lies r full → proper 0 r ≡ true
-proper_single r p = rw (le_yes (negsuc 9999999) r p.low, le_yes r (pos 10000000) p.high)
+proper_single r p = rw (le_true (negsuc 9999999) r p.low, le_true r (pos 10000000) p.high)
 
 -- a modulus and a remainder by it
 pub proper_many : (m : ℕ) (r : ℤ) → 0 < m → m ≤ 20000000 → pos 0 ≤ℤ r → r <ℤ pos m → proper m r ≡ true
 proper_many m r h k p q =
     let z : nat_eq m 0 ≡ false = ne_eqb m 0 (λ e. omega arith) in
     let s : leb m 20000000 ≡ true = le-leb m 20000000 k in
-    rw (z, s, le_yes (pos 0) r p, lt_yes r (pos m) q)
+    rw (z, s, le_true (pos 0) r p, lt_yes r (pos m) q)
 
 pub record Bounded (m : ℕ) (r : ℤ) : Type 0 where
   pub small : m ≤ 20000000

@@ -2,14 +2,13 @@
 use Rattle.std.specs.Prelude.{◌≡◌, ℕ, ◌<◌, Bool, true, false, cond, ◌&&◌, ℤ, pos, negsuc, ◌+ℤ◌, ◌-ℤ◌, ◌*ℤ◌, ◌≤ℤ◌, ◌<ℤ◌, Some, None, Option, ◌==◌, int_le, refl}
 use Rattle.std.proofs.Common.{inl, inr, ap, subst, subst₂, sym, arith, eqb-true}
 use Rattle.std.proofs.lemmas.Int.{ints}
-use Rattle.std.proofs.lemmas.Bool.{and_cases, and_from, and_parts, eqb-false}
+use Rattle.std.proofs.lemmas.Bool.{both_ways, and_cases, and_from, and_parts, eqb-false}
 use Rattle.model.specs.declared.range.Range.{Range}
 use Rattle.divisibility.specs.Multiples.{Multiple, remainder}
 use Rattle.divisibility.proofs.Multiples.{mod_parts, moved, mult_add, mult_sub, mult_zero}
 use Rattle.congruences.specs.Ranges.{Misses, Spans, ends, first, last}
 use Rattle.congruences.specs.declared.congruence.Congruence.{Congruence}
-use Rattle.congruences.specs.Checks.{clash}
-use Rattle.congruences.specs.Proper.{le_yes}
+use Rattle.model.proofs.Numbers.{true_le, le_true}
 use Rattle.congruences.specs.Same.{same_range}
 use Rattle.congruences.specs.Settles.{zero_same}
 
@@ -86,9 +85,6 @@ first_ge m r lo v false e h l = let p = mod_parts (r -ℤ lo) m (omega (arith, e
     at : (t : ℤ) → pos 0 ≤ℤ t → lo ≤ℤ (lo +ℤ t)
     at t h = omega (arith, ints)
 
-yes_le : (a b : ℤ) → int_le a b ≡ true → a ≤ℤ b
-yes_le a b h = omega (arith, ints)
-
 no_le : (a b : ℤ) → int_le a b ≡ false → a ≤ℤ b → ⊥
 no_le a b h l = omega (arith, ints)
 
@@ -102,9 +98,9 @@ by_test c lo hi true e =
     let p = and_parts (int_le lo (first c lo)) (int_le (first c lo) hi) e in
     let f = first_by c.modulus c.residue lo (c.modulus == 0) refl in
     let g = last_by c.modulus c.residue hi (c.modulus == 0) refl in
-    let l = yes_le (first c lo) hi p.1 in
+    let l = true_le (first c lo) hi p.1 in
     record {
-      low = yes_le lo (first c lo) p.0;
+      low = true_le lo (first c lo) p.0;
       high = last_le c.modulus c.residue hi (c.modulus == 0) refl (λ z. subst (λ (x : ℤ). x ≤ℤ hi) (first_single c.modulus c.residue lo z) l);
       ordered = g.over (first c lo) f.member l;
       least = f.member;
@@ -127,7 +123,7 @@ pub ends_found : (c : Congruence) (lo hi : ℤ) → Ended c lo hi (ends c lo hi)
 ends_found c lo hi = by_test c lo hi (int_le lo (first c lo) && int_le (first c lo) hi) refl
 
 ends_span : (c : Congruence) (lo hi : ℤ) → lo ≤ℤ first c lo → first c lo ≤ℤ hi → Spans c lo hi (record { lo = first c lo; hi = last c hi })
-ends_span c lo hi h k = by_test c lo hi true (and_from (int_le lo (first c lo)) (int_le (first c lo) hi) (le_yes lo (first c lo) h) (le_yes (first c lo) hi k))
+ends_span c lo hi h k = by_test c lo hi true (and_from (int_le lo (first c lo)) (int_le (first c lo) hi) (le_true lo (first c lo) h) (le_true (first c lo) hi k))
 
 -- as the code has them: f is the first member, l the last
 pub ends_within : (c : Congruence) (lo hi f l : ℤ) → f ≡ first c lo → l ≡ last c hi → lo ≤ℤ f → f ≤ℤ hi → (f ≤ℤ l) × (l ≤ℤ hi)
@@ -137,11 +133,11 @@ ends_within c lo hi f l p q h k =
 
 pub ends_some : (c : Congruence) (lo hi f l : ℤ) → f ≡ first c lo → l ≡ last c hi → lo ≤ℤ f → f ≤ℤ hi → ◌≡◌ {A = Option Range} (Some (record { lo = f; hi = l })) (ends c lo hi)
 ends_some c lo hi f l p q h k =
-    let a = le_yes lo (first c lo) (subst (λ (x : ℤ). lo ≤ℤ x) p h) in
-    let b = le_yes (first c lo) hi (subst (λ (x : ℤ). x ≤ℤ hi) p k) in
+    let a = le_true lo (first c lo) (subst (λ (x : ℤ). lo ≤ℤ x) p h) in
+    let b = le_true (first c lo) hi (subst (λ (x : ℤ). x ≤ℤ hi) p k) in
     by (int_le lo (first c lo)) (int_le (first c lo) hi) a b
   where
     by : (a b : Bool) → a ≡ true → b ≡ true → ◌≡◌ {A = Option Range} (Some (record { lo = f; hi = l })) (cond (a && b) (Some (record { lo = first c lo; hi = last c hi })) None)
     by true true u v = ap Some (same_range (record { lo = f; hi = l }) (record { lo = first c lo; hi = last c hi }) p q)
-    by true false u v = clash false v refl
-    by false b u v = clash false u refl
+    by true false u v = absurd (both_ways false refl v)
+    by false b u v = absurd (both_ways false refl u)

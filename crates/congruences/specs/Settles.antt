@@ -58,7 +58,7 @@ rest_out : (m : ℕ) (r v : ℤ) (b : Bool) → 0 < m → InSome v (cond b (chec
 rest_out m r v true h k = from_rest m r v h (checked_out m (remainder r m) v k)
 rest_out m r v false h k = from_rest m r v h (fold_out m (remainder r m) v (int_le (remainder r m) (pos 10000000)) k)
 
-positive : (m : ℕ) → (m == 0) ≡ false → 0 < m
+pub positive : (m : ℕ) → (m == 0) ≡ false → 0 < m
 positive m e = omega (arith, eqb-false m 0 e)
 
 settle_by : (m : ℕ) (r v : ℤ) (b : Bool) → (m == 0) ≡ b → Lies v full → Multiple m (v -ℤ r) → InSome v (cond b (checked 0 r) (cond (nat_le m 20000000) (checked m (remainder r m)) (folded m (remainder r m))))

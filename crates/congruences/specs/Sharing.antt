@@ -2,7 +2,7 @@
 use Rattle.std.specs.Prelude.{◌≡◌, ℕ, ◌<◌, Bool, true, false, cond, ℤ, pos, negsuc, ◌+ℤ◌, ◌-ℤ◌, ◌*ℤ◌, neg_ℤ, Some, None, Option, ◌==◌, refl}
 use Rattle.std.proofs.Common.{◌∙◌, ap, subst, sym, arith, eqb-true}
 use Rattle.std.proofs.Math.IntN.{*ℤ_comm}
-use Rattle.std.proofs.lemmas.Bool.{both_ways, eqb-false}
+use Rattle.std.proofs.lemmas.Bool.{both_ways}
 use Rattle.std.proofs.lemmas.Int.{ints}
 use Rattle.model.specs.Environments.{Lies, full}
 use Rattle.divisibility.specs.Gcds.{lcm}
@@ -16,7 +16,7 @@ use Rattle.divisibility.proofs.Ring.{add_mul, neg_mul}
 use Rattle.congruences.specs.Commons.{Shared, common, hits, lone, met, shifted}
 use Rattle.congruences.specs.Members.{In, InSome}
 use Rattle.congruences.specs.declared.congruence.Congruence.{Congruence}
-use Rattle.congruences.specs.Settles.{settled_in, settled_out, zero_same}
+use Rattle.congruences.specs.Settles.{positive, settled_in, settled_out, zero_same}
 
 -- one member more
 seen : (x y : Congruence) (t : ℕ) → hits x y t ≡ true → Multiple y.modulus (shifted x t -ℤ y.residue)
@@ -94,9 +94,6 @@ lone_in x y v true e z h k = h
 lone_in x y v false e z h k =
     let s = zero_same v x.residue (subst (λ (n : ℕ). Multiple n (v -ℤ x.residue)) z h) in
     both_ways (agrees y.modulus x.residue y.residue) e (agrees_from y.modulus x.residue y.residue (moved y.modulus (v -ℤ y.residue) (x.residue -ℤ y.residue) (ap (λ (w : ℤ). w -ℤ y.residue) s) k))
-
-positive : (m : ℕ) → (m == 0) ≡ false → 0 < m
-positive m e = omega (arith, eqb-false m 0 e)
 
 in_by : (x y : Congruence) (v : ℤ) (b d : Bool) → (x.modulus == 0) ≡ b → (y.modulus == 0) ≡ d → Lies v full → In v x → In v y → InSome v (cond b (lone x y) (cond d (lone y x) (met x y (least y.modulus (hits x y)))))
 in_by x y v true d p q l h k = lone_in x y v (agrees y.modulus x.residue y.residue) refl (eqb-true x.modulus 0 p) h k

@@ -1,9 +1,8 @@
 -- All numbers, and a single one.
-use Rattle.std.specs.Prelude.{Bool, ℤ, pos, neg_ℤ, Some, None, Option, ◌==◌, refl}
-use Rattle.std.specs.Int.{int_min, int_max}
-use Rattle.model.specs.Limits.{limit}
+use Rattle.std.specs.Prelude.{Bool, ℤ, pos, Some, None, Option, ◌==◌, refl}
 use Rattle.congruences.specs.Settled.{checked}
 use Rattle.congruences.specs.declared.congruence.Congruence.{Congruence}
+use Rattle.number_sets.specs.Clamped.{clamped}
 
 abbrev pub whole : Congruence
 whole = record { modulus = 1; residue = pos 0; ok = refl }
@@ -12,10 +11,6 @@ whole = record { modulus = 1; residue = pos 0; ok = refl }
 abbrev pub or_whole : Option Congruence → Congruence
 or_whole None = whole
 or_whole (Some c) = c
-
--- the nearest number within the limit
-abbrev pub clamped : ℤ → ℤ
-clamped n = int_max (neg_ℤ (pos limit)) (int_min n (pos limit))
 
 -- the single number n, which the limit makes proper
 abbrev pub single : ℤ → Congruence

@@ -1,51 +1,20 @@
 -- A range line is read exactly if the grammar has it, and as what the grammar says.
-use Rattle.std.proofs.Common.{◌≡◌, ℕ, ◌+◌, ◌-◌, ◌<◌, ◌≤◌, Bool, true, false, cond, ◌&&◌, eqb, leb, List, [], ◌∷◌, ◌++◌, length, take, drop, ℤ, pos, neg_ℤ, IfSome, Some, None, Option, sym, refl, ap, ◌∙◌, subst, add-one, arith}
-use Rattle.std.proofs.lemmas.Bool.{ne_eqb, eqb-true, and_parts, leb-true, le-leb}
+use Rattle.std.proofs.Common.{◌≡◌, ℕ, ◌+◌, ◌-◌, ◌<◌, Bool, true, false, cond, ◌&&◌, eqb, leb, List, [], ◌∷◌, ◌++◌, length, take, drop, ℤ, IfSome, Some, None, Option, sym, refl, ap, ◌∙◌, subst, add-one, arith}
+use Rattle.std.proofs.lemmas.Bool.{eqb-true, and_parts, le-leb}
 use Rattle.std.proofs.lemmas.List.{take_at, drop_at, drop-drop}
-use Rattle.std.specs.Str.Parse.{digits_value}
 use Rattle.console.specs.declared.range_line.RangeLine.{RangeLine}
 use Rattle.words.specs.Cuts.{until}
-use Rattle.words.specs.Numbers.{is_digit, all_digits, natural_of, minus, number_of}
+use Rattle.words.specs.Numbers.{NumberIs, is_digit, number_of}
+use Rattle.words.proofs.Cutting.{until_at}
+use Rattle.words.proofs.NumberGrammar.{digit_from, number_lacks, number_read, number_had}
 use Rattle.console.specs.RangeLines.{with_both, pair_of, range_of}
-use Rattle.console.specs.RangeLines.{NumberIs, plain, below, RangeIs, range}
-
-digit_from : (b : ℕ) → is_digit b ≡ true → (48 ≤ b) × (b ≤ 57)
-digit_from b h = let p = and_parts (leb 48 b) (leb b 57) h in (leb-true 48 b p.0, leb-true b 57 p.1)
+use Rattle.console.specs.RangeLines.{RangeIs, range}
 
 -- what the grammar has is read
 
-until_digits : (ds ys : List ℕ) → all_digits ds ≡ true → until 32 (ds ++ (32 ∷ ys)) ≡ length ds
-until_digits [] ys h = refl
-until_digits (b ∷ ds) ys h =
-    let p = and_parts (is_digit b) (all_digits ds) h in
-    let q = digit_from b p.0 in
-    let t : eqb b 32 ≡ false = ne_eqb b 32 (λ e. omega arith) in
-    rw t (omega (arith, until_digits ds ys p.1))
-
-until_number : (xs ys : List ℕ) (z : ℤ) → NumberIs xs z → until 32 (xs ++ (32 ∷ ys)) ≡ length xs
-until_number xs ys z (plain ds h lo hi) = until_digits ds ys h
-until_number xs ys z (below ds h lo hi) = omega (arith, until_digits ds ys h)
-
-natural_read : (ds : List ℕ) → all_digits ds ≡ true → 1 ≤ length ds → length ds ≤ 8 → natural_of ds ≡ Some (pos (digits_value 10 ds))
-natural_read ds h lo hi =
-    let s : leb 1 (length ds) ≡ true = le-leb _ _ lo in
-    let t : leb (length ds) 8 ≡ true = le-leb _ _ hi in
-    rw (h, s, t)
-
-plain_read : (ds : List ℕ) → all_digits ds ≡ true → 1 ≤ length ds → length ds ≤ 8 → number_of ds ≡ Some (pos (digits_value 10 ds))
-plain_read [] h lo hi = absurd (omega arith)
-plain_read (b ∷ ds) h lo hi =
-    let q = digit_from b (and_parts (is_digit b) (all_digits ds) h).0 in
-    let t : eqb b 45 ≡ false = ne_eqb b 45 (λ e. omega arith) in
-    rw t (natural_read (b ∷ ds) h lo hi)
-
-number_read : (xs : List ℕ) (z : ℤ) → NumberIs xs z → number_of xs ≡ Some z
-number_read xs z (plain ds h lo hi) = plain_read ds h lo hi
-number_read xs z (below ds h lo hi) = ap minus (natural_read ds h lo hi)
-
 pair_read : (p : ℕ) (xs ys : List ℕ) (lo hi : ℤ) → NumberIs xs lo → NumberIs ys hi → pair_of p (xs ++ (32 ∷ ys)) ≡ Some (record { parameter = p; range = record { lo = lo; hi = hi } })
 pair_read p xs ys lo hi a b =
-    let n = until_number xs ys lo a in
+    let n = until_at 32 xs (32 ∷ ys) (number_lacks xs lo a) refl in
     let front : take (until 32 (xs ++ (32 ∷ ys))) (xs ++ (32 ∷ ys)) ≡ xs = take_at xs (32 ∷ ys) _ (sym n) in
     let back : drop (until 32 (xs ++ (32 ∷ ys)) + 1) (xs ++ (32 ∷ ys)) ≡ ys = sym (drop-drop 1 (until 32 (xs ++ (32 ∷ ys))) (xs ++ (32 ∷ ys))) ∙ ap (drop 1) (drop_at xs (32 ∷ ys) _ (sym n)) in
     ap (λ zs. with_both p (number_of zs) (number_of (drop (until 32 (xs ++ (32 ∷ ys)) + 1) (xs ++ (32 ∷ ys))))) front ∙ ap (λ zs. with_both p (number_of xs) (number_of zs)) back ∙ ap (λ o. with_both p o (number_of ys)) (number_read xs lo a) ∙ ap (with_both p (Some lo)) (number_read ys hi b)
@@ -57,31 +26,6 @@ is_read bs a (range d xs ys lo hi l h x y) =
     rw (u, v) (pair_read (d - 48) xs ys lo hi x y)
 
 -- what is read is in the grammar
-
-natural_had : (bs : List ℕ) (z : ℤ) → natural_of bs ≡ Some z → (all_digits bs ≡ true) × (1 ≤ length bs) × (length bs ≤ 8) × (z ≡ pos (digits_value 10 bs))
-natural_had bs z e = go (all_digits bs && (leb 1 (length bs) && leb (length bs) 8)) refl e
-  where
-    go : (b : Bool) → (all_digits bs && (leb 1 (length bs) && leb (length bs) 8)) ≡ b → cond b (Some (pos (digits_value 10 bs))) None ≡ Some z → (all_digits bs ≡ true) × (1 ≤ length bs) × (length bs ≤ 8) × (z ≡ pos (digits_value 10 bs))
-    go true f g =
-        let p = and_parts (all_digits bs) (leb 1 (length bs) && leb (length bs) 8) f in
-        let q = and_parts (leb 1 (length bs)) (leb (length bs) 8) p.1 in
-        (p.0, leb-true _ _ q.0, leb-true _ _ q.1, cc)
-    go false f g = let n : ◌≡◌ {A = ℕ} 0 1 = cc in absurd (omega arith)
-
-minus_had : (o : Option ℤ) (z : ℤ) → minus o ≡ Some z → (y : ℤ) × (o ≡ Some y) × (z ≡ neg_ℤ y)
-minus_had None z e = let n : ◌≡◌ {A = ℕ} 0 1 = cc in absurd (omega arith)
-minus_had (Some y) z e = (y, refl, cc)
-
-number_had : (bs : List ℕ) (z : ℤ) → number_of bs ≡ Some z → NumberIs bs z
-number_had [] z e = let n : ◌≡◌ {A = ℕ} 0 1 = cc in absurd (omega arith)
-number_had (b ∷ bs) z e = go (eqb b 45) refl e
-  where
-    go : (t : Bool) → eqb b 45 ≡ t → cond t (minus (natural_of bs)) (natural_of (b ∷ bs)) ≡ Some z → NumberIs (b ∷ bs) z
-    go true f g =
-        let m = minus_had (natural_of bs) z g in
-        let h = natural_had bs m.0 m.1 in
-        subst (λ c. NumberIs (c ∷ bs) z) (sym (eqb-true b 45 f)) (subst (NumberIs (45 ∷ bs)) (sym (m.2 ∙ ap neg_ℤ h.3)) (below bs h.0 h.1 h.2))
-    go false f g = let h = natural_had (b ∷ bs) z g in subst (NumberIs (b ∷ bs)) (sym h.3) (plain (b ∷ bs) h.0 h.1 h.2)
 
 -- cut at the first blank, if there is one
 split_at : (bs : List ℕ) → (0 < length (drop (until 32 bs + 1) bs)) → bs ≡ take (until 32 bs) bs ++ (32 ∷ drop (until 32 bs + 1) bs)

@@ -1,15 +1,10 @@
 -- Range lines: `?` and a digit, and two numbers of at most 8 digits, each after one blank. First the grammar, then the reading.
-use Rattle.std.specs.Prelude.{◌≡◌, ℕ, ◌+◌, ◌-◌, ◌≤◌, true, cond, ◌&&◌, List, [], ◌∷◌, ◌++◌, length, take, drop, ℤ, pos, neg_ℤ, Some, None, Option, ◌==◌}
-use Rattle.std.specs.Str.Parse.{digits_value}
+use Rattle.std.specs.Prelude.{ℕ, ◌+◌, ◌-◌, ◌≤◌, cond, ◌&&◌, List, [], ◌∷◌, ◌++◌, take, drop, ℤ, Some, None, Option, ◌==◌}
 use Rattle.console.specs.declared.range_line.RangeLine.{RangeLine}
-use Rattle.words.specs.Numbers.{is_digit, all_digits, number_of}
+use Rattle.words.specs.Numbers.{is_digit, NumberIs, number_of}
 use Rattle.words.specs.Cuts.{until}
 
 -- ---- the grammar
-pub data NumberIs : List ℕ → ℤ → Type 0 where
-  plain : (ds : List ℕ) → all_digits ds ≡ true → 1 ≤ length ds → length ds ≤ 8 → NumberIs ds (pos (digits_value 10 ds))
-  below : (ds : List ℕ) → all_digits ds ≡ true → 1 ≤ length ds → length ds ≤ 8 → NumberIs (45 ∷ ds) (neg_ℤ (pos (digits_value 10 ds)))
-
 pub data RangeIs : List ℕ → RangeLine → Type 0 where
   range : (d : ℕ) (xs ys : List ℕ) (lo hi : ℤ) → 48 ≤ d → d ≤ 57 → NumberIs xs lo → NumberIs ys hi → RangeIs (63 ∷ d ∷ 32 ∷ (xs ++ (32 ∷ ys))) (record { parameter = d - 48; range = record { lo = lo; hi = hi } })
 

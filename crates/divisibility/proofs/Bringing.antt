@@ -1,10 +1,11 @@
 -- One turn of the loop that brings m to the gcd.
-use Rattle.std.proofs.Common.{◌≡◌, ℕ, ◌+◌, ◌-◌, ◌*◌, ◌/◌, ◌%◌, ◌<◌, ℤ, pos, ◌+ℤ◌, ◌-ℤ◌, ◌*ℤ◌, neg_ℤ, ap, ◌∙◌, mod-lt, div-add-mod', arith}
+use Rattle.std.proofs.Common.{◌≡◌, ℕ, ◌+◌, ◌-◌, ◌*◌, ◌/◌, ◌%◌, ◌<◌, ℤ, pos, ◌+ℤ◌, ◌-ℤ◌, ◌*ℤ◌, neg_ℤ, ap, ◌∙◌, mod-lt, arith}
 use lib.IntN.{*ℤ_comm}
 use Rattle.std.proofs.lemmas.Int.{ints}
 use Rattle.divisibility.proofs.Ring.{mul_sub, mul_swap}
 use Rattle.divisibility.specs.Multiples.{Multiple}
 use Rattle.divisibility.proofs.Multiples.{moved, mult_self, mult_sub, mult_neg, mult_scale, mod_parts}
+use Rattle.divisibility.proofs.Gcds.{rest_is}
 
 pub next_same : (p k q n : ℕ) → 0 < n → Multiple n ((pos p -ℤ (pos k *ℤ pos q)) -ℤ pos ((p + n - k * q % n) % n))
 next_same p k q n h =
@@ -33,9 +34,6 @@ start_right m n = moved n (neg_ℤ (pos n)) _ (omega (arith, ints)) (mult_neg n 
 sum : (pm a y x x' mp mkq mr kqm kb s rm : ℤ) → x ≡ x' -ℤ mr → x' ≡ mp -ℤ mkq → y ≡ kqm -ℤ kb → mp ≡ pm → mkq ≡ kqm → mr ≡ rm → a ≡ kb +ℤ s → ((pm -ℤ a) -ℤ y) -ℤ x ≡ rm -ℤ s
 sum pm a y x x' mp mkq mr kqm kb s rm e f g h i j k = omega (arith, ints)
 
-parts : (a b : ℕ) → pos a ≡ (pos (a / b) *ℤ pos b) +ℤ pos (a % b)
-parts a b = let d = div-add-mod' a b in omega (arith, ints)
-
 -- q' is p − kq, so q'm is a − kb, which is the remainder
 pub turned : (m n a b p q r : ℕ) → Multiple n ((pos p *ℤ pos m) -ℤ pos a) → Multiple n ((pos q *ℤ pos m) -ℤ pos b) → Multiple n ((pos p -ℤ (pos (a / b) *ℤ pos q)) -ℤ pos r) → Multiple n ((pos r *ℤ pos m) -ℤ pos (a % b))
 turned m n a b p q r u v w =
@@ -46,5 +44,5 @@ turned m n a b p q r u v w =
     moved n ((((pos p *ℤ pos m) -ℤ pos a) -ℤ (k *ℤ ((pos q *ℤ pos m) -ℤ pos b))) -ℤ (pos m *ℤ z)) ((pos r *ℤ pos m) -ℤ pos (a % b))
     (sum (pos p *ℤ pos m) (pos a) (k *ℤ ((pos q *ℤ pos m) -ℤ pos b)) (pos m *ℤ z) (pos m *ℤ (pos p -ℤ (k *ℤ pos q))) (pos m *ℤ pos p) (pos m *ℤ (k *ℤ pos q)) (pos m *ℤ pos r) (k *ℤ (pos q *ℤ pos m)) (k *ℤ pos b) (pos (a % b)) (pos r *ℤ pos m)
     (mul_sub (pos m) (pos p -ℤ (k *ℤ pos q)) (pos r)) (mul_sub (pos m) (pos p) (k *ℤ pos q)) (mul_sub k (pos q *ℤ pos m) (pos b))
-    (*ℤ_comm (pos m) (pos p)) (mul_swap (pos m) k (pos q) ∙ ap (λ (t : ℤ). k *ℤ t) (*ℤ_comm (pos m) (pos q))) (*ℤ_comm (pos m) (pos r)) (parts a b))
+    (*ℤ_comm (pos m) (pos p)) (mul_swap (pos m) k (pos q) ∙ ap (λ (t : ℤ). k *ℤ t) (*ℤ_comm (pos m) (pos q))) (*ℤ_comm (pos m) (pos r)) (rest_is a b))
     (mult_sub n _ _ (mult_sub n _ _ u y) x)

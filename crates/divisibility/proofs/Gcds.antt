@@ -9,8 +9,11 @@ use Rattle.divisibility.proofs.Multiples.{moved, mult_zero, mult_self, mult_add,
 pub gcd_zero : (a : ℕ) → Gcd a 0 a
 gcd_zero a = record { left = mult_self a; right = mult_zero a; greatest = λ d p q. p }
 
-rest_is : (a b : ℕ) → pos a ≡ (pos (a / b) *ℤ pos b) +ℤ pos (a % b)
+pub rest_is : (a b : ℕ) → pos a ≡ (pos (a / b) *ℤ pos b) +ℤ pos (a % b)
 rest_is a b = let d = div-add-mod' a b in omega (arith, ints)
+
+rest_of : (a b : ℕ) → pos a -ℤ (pos (a / b) *ℤ pos b) ≡ pos (a % b)
+rest_of a b = let e = rest_is a b in omega (arith, ints)
 
 -- one step of the rule
 pub gcd_step : (a b g : ℕ) → Gcd b (a % b) g → Gcd a b g
@@ -19,9 +22,6 @@ gcd_step a b g h = record {
   right = h.left;
   greatest = λ d p q. h.greatest d q (moved d (pos a -ℤ (pos (a / b) *ℤ pos b)) (pos (a % b)) (rest_of a b) (mult_sub d _ _ p (mult_scale d (pos (a / b)) (pos b) q)));
 }
-  where
-    rest_of : (a b : ℕ) → pos a -ℤ (pos (a / b) *ℤ pos b) ≡ pos (a % b)
-    rest_of a b = let e = rest_is a b in omega (arith, ints)
 
 pub gcd_back : (a b g : ℕ) → Gcd a b g → Gcd b (a % b) g
 gcd_back a b g h = record {
@@ -29,9 +29,6 @@ gcd_back a b g h = record {
   right = moved g (pos a -ℤ (pos (a / b) *ℤ pos b)) (pos (a % b)) (rest_of a b) (mult_sub g _ _ h.left (mult_scale g (pos (a / b)) (pos b) h.right));
   greatest = λ d p q. h.greatest d (moved d _ _ (sym (rest_is a b)) (mult_add d _ _ (mult_scale d (pos (a / b)) (pos b) p) q)) p;
 }
-  where
-    rest_of : (a b : ℕ) → pos a -ℤ (pos (a / b) *ℤ pos b) ≡ pos (a % b)
-    rest_of a b = let e = rest_is a b in omega (arith, ints)
 
 gcd_by_is : (n a b : ℕ) → b < n → Gcd a b (gcd_by n a b)
 unfolding gcd_by

@@ -9,7 +9,8 @@ use Rattle.domain.specs.declared.product.Product.{Product}
 use Rattle.domain.specs.Lattice.{Lattice, Lawful, Inside, empty, single}
 use Rattle.domain.specs.Tracking.{Sharpens, begin, cut, pin, Tracking}
 use Rattle.domain.specs.Pairs.{pair, PairTracks, reduce, reduce_at, outcome}
-use Rattle.domain.specs.Environments.{legal_set, le_true}
+use Rattle.domain.specs.Environments.{legal_set}
+use Rattle.model.proofs.Numbers.{le_true}
 use Rattle.domain.specs.PairLaws.{inside_empty, outcome_holds}
 
 same_number : (m n : ℤ) → m ≤ℤ n → n ≤ℤ m → m ≡ n

@@ -6,7 +6,7 @@ use Rattle.std.proofs.lemmas.Bool.{cond_both}
 use Rattle.model.specs.declared.range.Range.{Range}
 use Rattle.model.specs.Environments.{Env, Lies}
 use Rattle.domain.specs.Lattice.{Lawful, Inside, empty}
-use Rattle.domain.specs.Environments.{true_le, le_true}
+use Rattle.model.proofs.Numbers.{true_le, le_true}
 use Rattle.fickle.specs.declared.fickle.Fickle.{Fickle}
 use Rattle.fickle.specs.declared.fickle.Fickle.TheVariants.{None, Fresh, Stale}
 use Rattle.fickle.specs.Fickle.{means, rank, turned, freshened, join, widen, within, whole_or_empty, fickle}
@@ -47,16 +47,17 @@ widen_right Fresh Fresh e m = tt
 widen_right Fresh Stale e m = tt
 widen_right Stale t e m = tt
 
-no : {P : Type 0} → false ≡ true → P
-no h = absurd (let z : ◌≡◌ {A = ℕ} 0 1 = cc in omega arith)
+-- what follows from a claim that is not made
+pub not_claimed : {P : Type 0} → false ≡ true → P
+not_claimed h = absurd (let z : ◌≡◌ {A = ℕ} 0 1 = cc in omega arith)
 
 within_holds : (s t : Fickle) (e : Env) → within s t ≡ true → means s e → means t e
 within_holds None t e h m = absurd m
-within_holds Fresh None e h m = no h
+within_holds Fresh None e h m = not_claimed h
 within_holds Fresh Fresh e h m = tt
 within_holds Fresh Stale e h m = tt
-within_holds Stale None e h m = no h
-within_holds Stale Fresh e h m = no h
+within_holds Stale None e h m = not_claimed h
+within_holds Stale Fresh e h m = not_claimed h
 within_holds Stale Stale e h m = tt
 
 itself : (x : Range) → x.lo ≤ℤ x.hi → Inside x x
@@ -106,14 +107,10 @@ fickle_lawful n = record {
   widen_left = λ s t e w m. widen_left s t e m;
   widen_right = λ s t e w m. widen_right s t e m;
   within_holds = λ s t e w h m. within_holds s t e h m;
-  sure_holds = λ s x e v w h m. no h;
-  shows_holds = λ s d e w h m. no h;
+  sure_holds = λ s x e v w h m. not_claimed h;
+  shows_holds = λ s d e w h m. not_claimed h;
   range_inside = λ s r x i. range_inside x;
   range_holds = λ s r x e i w m h. range_holds _ x h;
   widen_le = widen_le;
   widen_lt = widen_lt;
 }
-
--- what follows from a claim that is not made
-pub not_claimed : {P : Type 0} → false ≡ true → P
-not_claimed h = absurd (let z : ◌≡◌ {A = ℕ} 0 1 = cc in omega arith)

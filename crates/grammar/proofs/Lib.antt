@@ -2,7 +2,6 @@ pub mod Reading
 pub mod Cuts
 pub mod Binds
 pub mod Ones
-pub mod Lines
 pub mod Mores
 pub mod Meets
 pub mod Terms

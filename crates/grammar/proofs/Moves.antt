@@ -14,7 +14,7 @@ use Rattle.grammar.specs.Grammar as is
 use Rattle.grammar.proofs.Reading.{bindL, oneL, or_moreL, Lines}
 use Rattle.grammar.specs.Tests.{axis, digits}
 use Rattle.grammar.specs.Parser.{more, move}
-use Rattle.grammar.proofs.Lines.{lines_bind}
+use Rattle.grammar.proofs.Binds.{lines_bind}
 use Rattle.grammar.proofs.Ones.{reads_one}
 use Rattle.grammar.proofs.Mores.{lines_more}
 use Rattle.grammar.proofs.Meets.{err_ok, upto_in, axis_wrong, axis_lawful, axis_is, digits_is}

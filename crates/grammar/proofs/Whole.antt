@@ -17,7 +17,7 @@ use Rattle.grammar.proofs.Reading.{bindL, oneL, pure_l, or_moreL, Lines}
 use Rattle.grammar.specs.Tests.{digits, only}
 use Rattle.grammar.specs.Parser.{setting, block_word, block_rest, block, line_first, line_rest, line}
 use Rattle.grammar.specs.Axes.{motion_of, moved}
-use Rattle.grammar.proofs.Lines.{lines_bind, lines_same}
+use Rattle.grammar.proofs.Binds.{lines_bind, lines_same}
 use Rattle.grammar.proofs.Ones.{reads_one}
 use Rattle.grammar.proofs.Mores.{lines_end, lines_more}
 use Rattle.grammar.proofs.Meets.{In, err_ok, upto_in, digits_is, only_is, words_lawful, words_is, words_wrong}

@@ -8,11 +8,12 @@ use Rattle.model.specs.declared.side.Sign.{Sign}
 use Rattle.model.specs.declared.side.Sign.TheVariants.{Plus as plus, Minus as minus}
 use Rattle.model.specs.declared.side.Factor.{Factor}
 use Rattle.model.specs.declared.side.Factor.TheVariants.{Plus, Zero, Minus}
-use Rattle.intervals.specs.Made.{In, yes_le}
+use Rattle.intervals.specs.Made.{In}
 use Rattle.intervals.specs.Singles.{single}
 use Rattle.intervals.specs.Bounds.{most_signed, most_scaled, bounds}
 use Rattle.intervals.specs.declared.interval.Interval.{Interval}
-use Rattle.intervals.specs.SinglesLemmas.{clamped_same}
+use Rattle.number_sets.specs.Clamped.{clamped_same}
+use Rattle.model.proofs.Numbers.{true_le}
 
 signed_le : (a : Sign) (x : Interval) (m : ℤ) → In m x → signed a m ≤ℤ most_signed a x
 signed_le plus x m h = h.high
@@ -28,7 +29,7 @@ sum_le p q r s c h k l = omega (arith, ints)
 
 pub bounds_in : (a : Sign) (x : Interval) (b : Factor) (y : Interval) (c m n : ℤ) → bounds a x b y c ≡ true → In m x → In n y → (signed a m +ℤ scaled b n) ≤ℤ c
 bounds_in a x b y c m n e h k =
-    sum_le (signed a m) (scaled b n) (most_signed a x) (most_scaled b y) c (signed_le a x m h) (scaled_le b y n k) (yes_le (most_signed a x +ℤ most_scaled b y) c e)
+    sum_le (signed a m) (scaled b n) (most_signed a x) (most_scaled b y) c (signed_le a x m h) (scaled_le b y n k) (true_le (most_signed a x +ℤ most_scaled b y) c e)
 
 signed_single : (a : Sign) (m : ℤ) → Lies m full → most_signed a (single m) ≡ signed a m
 signed_single plus m p = clamped_same m p

@@ -2,7 +2,7 @@
 use Rattle.std.specs.Prelude.{◌≡◌, Bool, true, false, cond, ℤ, pos, ◌+ℤ◌, ◌-ℤ◌, ◌≤ℤ◌, Some, None, Option, ◌≢◌, int_le, int_lt, refl}
 use Rattle.std.proofs.Common.{sym, ◌∙◌, subst, arith}
 use Rattle.std.proofs.lemmas.Int.{ints, clamps}
-use Rattle.std.proofs.lemmas.Bool.{and_parts, both_ways, not-true}
+use Rattle.std.proofs.lemmas.Bool.{both_ways, not-true}
 use Rattle.std.specs.Int.{int_min, int_max}
 use Rattle.model.specs.Values.{same, compare}
 use Rattle.model.specs.declared.expression.Rel.{Rel}
@@ -10,12 +10,13 @@ use Rattle.model.specs.declared.expression.Rel.TheVariants.{Eq, Ne, Lt, Le, Gt, 
 use Rattle.number_sets.specs.declared.sets.Pair.{Pair}
 use Rattle.number_sets.specs.Sets.{HasSome, HasPair}
 use Rattle.intervals.specs.Intervals.{intervals}
-use Rattle.intervals.specs.Made.{made, In, yes_le}
+use Rattle.intervals.specs.Made.{made, In}
 use Rattle.number_sets.specs.Pairs.{both}
 use Rattle.intervals.specs.Conditions.{turned_all, below, up_from, down_from, except, kept}
 use Rattle.intervals.specs.declared.interval.Interval.{Interval}
 use Rattle.intervals.specs.Makes.{made_in}
 use Rattle.intervals.specs.SpansLemmas.{meet_in}
+use Rattle.model.proofs.Numbers.{same_is}
 
 -- ---- tests
 pub lt_gap : (a b : ℤ) → int_lt a b ≡ true → (a +ℤ pos 1) ≤ℤ b
@@ -23,9 +24,6 @@ lt_gap a b h = grind (arith, ints)
 
 pub le_gap : (a b : ℤ) → int_le a b ≡ true → (a +ℤ pos 0) ≤ℤ b
 le_gap a b h = grind (arith, ints)
-
-pub eq_yes : (a b : ℤ) → same a b ≡ true → a ≡ b
-eq_yes a b h = let p = and_parts (int_le a b) (int_le b a) h in let q = yes_le a b p.0 in let r = yes_le b a p.1 in omega (arith, ints)
 
 pub eq_no : (a b : ℤ) → same a b ≡ false → a ≢ b
 eq_no a b h e = never a (subst (λ (x : ℤ). same a x ≡ false) (sym e) h)
@@ -54,14 +52,14 @@ below_in gap u v x y l h k = both_in u v _ _
 -- ---- an end that moves from a number w
 -- a number u other than w is not passed
 up_le : (lo w u : ℤ) (b : Bool) → same lo w ≡ b → lo ≤ℤ u → (u ≢ w) → cond b (lo +ℤ pos 1) lo ≤ℤ u
-up_le lo w u true e h n = let p = eq_yes lo w e in apart lo u h (λ q. n (sym q ∙ p))
+up_le lo w u true e h n = let p = same_is lo w e in apart lo u h (λ q. n (sym q ∙ p))
   where
     apart : (a b : ℤ) → a ≤ℤ b → (a ≢ b) → (a +ℤ pos 1) ≤ℤ b
     apart a b h n = omega (arith, ints)
 up_le lo w u false e h n = h
 
 down_ge : (hi w u : ℤ) (b : Bool) → same hi w ≡ b → u ≤ℤ hi → (u ≢ w) → u ≤ℤ cond b (hi -ℤ pos 1) hi
-down_ge hi w u true e h n = let p = eq_yes hi w e in apart u hi h (λ q. n (q ∙ p))
+down_ge hi w u true e h n = let p = same_is hi w e in apart u hi h (λ q. n (q ∙ p))
   where
     apart : (a b : ℤ) → a ≤ℤ b → (a ≢ b) → a ≤ℤ (b -ℤ pos 1)
     apart a b h n = omega (arith, ints)
@@ -78,7 +76,7 @@ high_stays hi false = omega (arith, ints)
 
 except_by : (u v : ℤ) (x y : Interval) (b : Bool) → same y.lo y.hi ≡ b → (u ≢ v) → In u x → In v y → HasSome intervals (cond b (made (up_from x.lo y.lo) (down_from x.hi y.lo)) (Some x)) u
 except_by u v x y true e n h k =
-    let s = eq_yes y.lo y.hi e in
+    let s = same_is y.lo y.hi e in
     let w : v ≡ y.lo = omega (arith, ints) in
     let m : (u ≢ y.lo) = λ q. n (q ∙ sym w) in
     let a = low_stays x.lo (same x.lo y.lo) in let b = high_stays x.hi (same x.hi y.lo) in
@@ -96,7 +94,7 @@ except_in u v x y n h k = except_by u v x y (same y.lo y.hi) refl n h k
 -- a pair of numbers that meets the condition is left
 pub kept_in : (r : Rel) (x y : Interval) (u v : ℤ) → compare r u v ≡ true → In u x → In v y → HasPair intervals (kept r x y) u v
 kept_in Eq x y u v m h k =
-    let e = eq_yes u v m in
+    let e = same_is u v m in
     let hy = subst (λ (w : ℤ). In w y) (sym e) k in let hx = subst (λ (w : ℤ). In w x) e h in
     both_in u v _ _ (meet_in x y u h hy) (meet_in x y v hx k)
 kept_in Ne x y u v m h k =

@@ -14,8 +14,9 @@ use Rattle.intervals.specs.ConditionsLemmas.{kept_in}
 use Rattle.intervals.specs.WideningLemmas.{widen_left, widen_right, room_le_two, room_le, room_lt}
 use Rattle.intervals.specs.RangesLemmas.{narrow_in, range_inside, range_lies, narrow_pin, narrow_single, range_single}
 use Rattle.intervals.specs.BoundsLemmas.{bounds_in, bounds_single}
-use Rattle.intervals.specs.SinglesLemmas.{clamped_same, apply_single, fits_single, meet_single}
+use Rattle.intervals.specs.SinglesLemmas.{apply_single, fits_single, meet_single}
 use Rattle.intervals.specs.SingleConditions.{kept_yes, kept_no}
+use Rattle.number_sets.specs.Clamped.{clamped_same}
 
 single_has : (n : ℤ) → Lies n full → In n (single n)
 single_has n p = let e = clamped_same n p in record { low = omega (arith, ints); high = omega (arith, ints) }

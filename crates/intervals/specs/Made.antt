@@ -3,21 +3,18 @@ use Rattle.std.specs.Prelude.{◌≡◌, Bool, true, false, ◌&&◌, ℤ, pos, 
 use Rattle.std.proofs.lemmas.Bool.{and_parts}
 use Rattle.model.specs.Limits.{limit}
 use Rattle.intervals.specs.declared.interval.Interval.{Interval}
+use Rattle.model.proofs.Numbers.{true_le}
 
 -- the ends are in order, and within the limit
 abbrev pub proper : ℤ → ℤ → Bool
 proper lo hi = int_le (neg_ℤ (pos limit)) lo && (int_le lo hi && int_le hi (pos limit))
-
--- where the test says yes, the order holds
-pub yes_le : (a b : ℤ) → int_le a b ≡ true → a ≤ℤ b
-yes_le a b h = record { le = rw h tt }
 
 -- the interval lo..hi, of proper ends
 abbrev pub between : (lo hi : ℤ) → proper lo hi ≡ true → Interval
 between lo hi e =
     let p = and_parts (int_le (neg_ℤ (pos limit)) lo) (int_le lo hi && int_le hi (pos limit)) e in
     let q = and_parts (int_le lo hi) (int_le hi (pos limit)) p.1 in
-    record { lo = lo; hi = hi; low = yes_le (neg_ℤ (pos limit)) lo p.0; ordered = yes_le lo hi q.0; high = yes_le hi (pos limit) q.1 }
+    record { lo = lo; hi = hi; low = true_le (neg_ℤ (pos limit)) lo p.0; ordered = true_le lo hi q.0; high = true_le hi (pos limit) q.1 }
 
 -- that interval or none, by whether the ends are proper
 unfoldable pub pick : (lo hi : ℤ) (b : Bool) → proper lo hi ≡ b → Option Interval

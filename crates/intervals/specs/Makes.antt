@@ -9,26 +9,21 @@ use Rattle.intervals.specs.Intervals.{intervals}
 use Rattle.intervals.specs.Made.{proper, pick, made}
 use Rattle.intervals.specs.declared.interval.Interval.{Interval}
 use Rattle.intervals.specs.Same.{interval_same}
+use Rattle.model.proofs.Numbers.{le_true, lt_false}
 
 -- ---- the test
-pub le_yes : (a b : ℤ) → a ≤ℤ b → int_le a b ≡ true
-le_yes a b h = grind (arith, ints)
-
-lt_no : (a b : ℤ) → b <ℤ a → int_le a b ≡ false
-lt_no a b h = grind (arith, ints)
-
 proper_yes : (lo hi : ℤ) → neg_ℤ (pos limit) ≤ℤ lo → lo ≤ℤ hi → hi ≤ℤ pos limit → proper lo hi ≡ true
-proper_yes lo hi p q r = rw (le_yes (neg_ℤ (pos limit)) lo p, le_yes lo hi q, le_yes hi (pos limit) r)
+proper_yes lo hi p q r = rw (le_true (neg_ℤ (pos limit)) lo p, le_true lo hi q, le_true hi (pos limit) r)
 
 -- the three ways not to be an interval
 pub too_low : (lo hi : ℤ) → lo <ℤ neg_ℤ (pos limit) → proper lo hi ≡ false
-too_low lo hi h = and_left (int_le (neg_ℤ (pos limit)) lo) _ (lt_no (neg_ℤ (pos limit)) lo h)
+too_low lo hi h = and_left (int_le (neg_ℤ (pos limit)) lo) _ (lt_false (neg_ℤ (pos limit)) lo h)
 
 pub crossed : (lo hi : ℤ) → hi <ℤ lo → proper lo hi ≡ false
-crossed lo hi h = and_right (int_le (neg_ℤ (pos limit)) lo) _ (and_left (int_le lo hi) _ (lt_no lo hi h))
+crossed lo hi h = and_right (int_le (neg_ℤ (pos limit)) lo) _ (and_left (int_le lo hi) _ (lt_false lo hi h))
 
 pub too_high : (lo hi : ℤ) → pos limit <ℤ hi → proper lo hi ≡ false
-too_high lo hi h = and_right (int_le (neg_ℤ (pos limit)) lo) _ (and_right (int_le lo hi) _ (lt_no hi (pos limit) h))
+too_high lo hi h = and_right (int_le (neg_ℤ (pos limit)) lo) _ (and_right (int_le lo hi) _ (lt_false hi (pos limit) h))
 
 -- ---- what is made
 pick_some : (lo hi : ℤ) (b : Bool) (e : proper lo hi ≡ b) (x : Interval) → x.lo ≡ lo → x.hi ≡ hi → proper lo hi ≡ true → pick lo hi b e ≡ Some x

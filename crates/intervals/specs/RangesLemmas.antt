@@ -13,7 +13,7 @@ use Rattle.intervals.specs.Singles.{single}
 use Rattle.intervals.specs.Ranges.{narrow, spread}
 use Rattle.intervals.specs.declared.interval.Interval.{Interval}
 use Rattle.intervals.specs.Makes.{made_in, made_some, made_ends}
-use Rattle.intervals.specs.SinglesLemmas.{clamped_same}
+use Rattle.number_sets.specs.Clamped.{clamped_same}
 
 pub narrow_in : (x : Interval) (z : Range) (n : ℤ) → In n x → Lies n z → HasSome intervals (narrow x z) n
 narrow_in x z n h k = made_in _ _ n (omega (arith, ints, clamps)) (omega (arith, ints, clamps)) (omega (arith, ints, clamps)) (omega (arith, ints, clamps))

@@ -10,12 +10,13 @@ use Rattle.model.specs.declared.expression.Op.{Op}
 use Rattle.model.specs.declared.expression.Op.TheVariants.{Add, Sub, Mul}
 use Rattle.number_sets.specs.Sets.{HasSome}
 use Rattle.intervals.specs.Intervals.{intervals}
-use Rattle.intervals.specs.Made.{In, yes_le}
+use Rattle.intervals.specs.Made.{In}
 use Rattle.intervals.specs.Results.{ends, cut, fits}
 use Rattle.intervals.specs.declared.interval.Interval.{Interval}
 use Rattle.intervals.specs.declared.interval.results.Ends.{Ends}
 use Rattle.intervals.specs.Makes.{made_in}
 use Rattle.intervals.specs.Products.{product_low, product_high}
+use Rattle.model.proofs.Numbers.{true_le}
 
 -- between two ends
 record Among (v : ℤ) (e : Ends) : Type 0 where
@@ -39,8 +40,8 @@ cut_in v e l h = made_in _ _ v (omega (arith, ints, clamps)) (omega (arith, ints
 ends_lie : (v : ℤ) (e : Ends) → fits e ≡ true → Among v e → Lies v full
 ends_lie v e h k =
     let p = and_parts (int_le (neg_ℤ (pos limit)) e.lo) (int_le e.hi (pos limit)) h in
-    let a = yes_le (neg_ℤ (pos limit)) e.lo p.0 in
-    let b = yes_le e.hi (pos limit) p.1 in
+    let a = true_le (neg_ℤ (pos limit)) e.lo p.0 in
+    let b = true_le e.hi (pos limit) p.1 in
     record { low = omega (arith, ints); high = omega (arith, ints) }
 
 pub apply_in : (o : Op) (x y : Interval) (u v : ℤ) → In u x → In v y → Lies (apply o u v) full → HasSome intervals (cut (ends o x y)) (apply o u v)

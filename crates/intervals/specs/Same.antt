@@ -1,14 +1,11 @@
 -- Intervals with the same ends are the same.
-use Rattle.std.specs.Prelude.{◌≡◌, ℤ, pos, neg_ℤ, ◌≤ℤ◌, int_le}
+use Rattle.std.specs.Prelude.{◌≡◌, ℤ, pos, neg_ℤ, ◌≤ℤ◌}
 use Rattle.std.proofs.Common.{subst, subst₂}
 use mathlib.Core.HLevel.{is_prop→PathP}
-use Rattle.std.proofs.Math.Dec.{T_prop}
 use Rattle.model.specs.Limits.{limit}
 use Rattle.intervals.specs.declared.interval.Interval.{Interval}
 use Rattle.intervals.specs.declared.interval.results.Ends.{Ends}
-
-le_prop : (a b : ℤ) → IsProp (a ≤ℤ b)
-le_prop a b x y i = record { le = T_prop (int_le a b) x.le y.le i }
+use Rattle.model.proofs.Numbers.{le_prop}
 
 pub interval_same : (a b : Interval) → a.lo ≡ b.lo → a.hi ≡ b.hi → a ≡ b
 interval_same a b p q i = record {

@@ -14,9 +14,10 @@ use Rattle.intervals.specs.Singles.{single}
 use Rattle.number_sets.specs.Pairs.{both}
 use Rattle.intervals.specs.Conditions.{turned_all, below, up_from, down_from, except, kept}
 use Rattle.intervals.specs.declared.interval.Interval.{Interval}
-use Rattle.intervals.specs.Makes.{made_some, made_crossed, le_yes}
-use Rattle.intervals.specs.ConditionsLemmas.{lt_gap, le_gap, eq_yes, eq_no}
+use Rattle.intervals.specs.Makes.{made_some, made_crossed}
+use Rattle.intervals.specs.ConditionsLemmas.{lt_gap, le_gap, eq_no}
 use Rattle.intervals.specs.SinglesLemmas.{point, single_point}
+use Rattle.model.proofs.Numbers.{le_true, same_is}
 
 -- the two numbers as the sides of a condition
 abbrev pair : (u v : ℤ) → Lies u full → Lies v full → Pair Interval
@@ -39,7 +40,7 @@ below_no : (gap u v : ℤ) (p : Lies u full) (q : Lies v full) → v <ℤ (u +�
 below_no gap u v p q h = both_none _ _ (made_crossed u (int_min u (v -ℤ gap)) (omega (arith, ints, clamps)))
 
 eq_self : (a : ℤ) → same a a ≡ true
-eq_self a = rw (le_yes a a (omega (arith, ints)))
+eq_self a = rw (le_true a a (omega (arith, ints)))
 
 except_point : (u v : ℤ) (p : Lies u full) (q : Lies v full) → except (point u p) (point v q) ≡ made (up_from u v) (down_from u v)
 except_point u v p q = rw (eq_self v)
@@ -65,7 +66,7 @@ apart u v b e f = let n = eq_no u v (e ∙ f) in made_crossed (int_max u v) (int
 -- a condition that two numbers meet leaves both
 point_yes : (r : Rel) (u v : ℤ) (p : Lies u full) (q : Lies v full) → compare r u v ≡ true → kept r (point u p) (point v q) ≡ Some (pair u v p q)
 point_yes Eq u v p q m =
-    let e = eq_yes u v m in
+    let e = same_is u v m in
     ap₂ both (made_some _ _ (point u p) (omega (arith, ints, clamps)) (omega (arith, ints, clamps))) (made_some _ _ (point v q) (omega (arith, ints, clamps)) (omega (arith, ints, clamps)))
 point_yes Ne u v p q m =
     let e = not-true (same u v) m in

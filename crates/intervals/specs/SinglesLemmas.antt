@@ -7,20 +7,18 @@ use Rattle.model.specs.Environments.{Lies, full, fit}
 use Rattle.model.specs.Values.{apply}
 use Rattle.model.specs.declared.expression.Op.{Op}
 use Rattle.model.specs.declared.expression.Op.TheVariants.{Add, Sub, Mul}
-use Rattle.intervals.specs.Singles.{clamped, single}
+use Rattle.intervals.specs.Singles.{single}
 use Rattle.intervals.specs.Spans.{meet}
 use Rattle.intervals.specs.Results.{ends, cut, fits, least, greatest}
 use Rattle.intervals.specs.declared.interval.Interval.{Interval}
 use Rattle.intervals.specs.declared.interval.results.Ends.{Ends}
 use Rattle.intervals.specs.Same.{interval_same, ends_same}
 use Rattle.intervals.specs.Makes.{made_some}
+use Rattle.number_sets.specs.Clamped.{clamped_same}
 
 -- n..n, of a number within the limit
 abbrev pub point : (n : ℤ) → Lies n full → Interval
 point n p = record { lo = n; hi = n; low = p.low; ordered = ≤ℤ_refl n; high = p.high }
-
-pub clamped_same : (n : ℤ) → Lies n full → clamped n ≡ n
-clamped_same n p = omega (arith, ints, clamps)
 
 -- a number within the limit is not moved
 pub single_point : (n : ℤ) (p : Lies n full) → single n ≡ point n p

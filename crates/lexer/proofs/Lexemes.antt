@@ -1,7 +1,5 @@
 -- Each text has its tokens, and no others.
-use Rattle.std.proofs.Common.{◌≡◌, ℕ, zero, suc, ◌+◌, ◌-◌, ◌<◌, ◌≤◌, Bool, true, false, cond, List, [], ◌∷◌, ◌++◌, length, get_or, take, drop, sym, refl, ap, ◌∙◌, subst, true≢false, arith, rules, length-append, length-drop}
-use denote.Enum.Bare.{same_true}
-use Rattle.lexer.specs.contracts.class.Class.{the_type}
+use Rattle.std.proofs.Common.{◌≡◌, ℕ, zero, suc, ◌+◌, ◌-◌, ◌<◌, ◌≤◌, Bool, true, false, cond, List, [], ◌∷◌, ◌++◌, length, get_or, take, drop, sym, refl, ap, ◌∙◌, subst, true≢false, arith, length-append, length-drop}
 use Rattle.std.specs.List.{AllByRecursion}
 use Rattle.std.proofs.lemmas.List.Sums.{prefix_len-le-length}
 use Rattle.std.proofs.lemmas.List.{take_at, drop_at, take-append-drop, length-take-le}
@@ -11,25 +9,17 @@ use Rattle.lexer.specs.Classes.{class, same, run}
 use Rattle.lexer.specs.Parts.{size, size_by}
 use Rattle.lexer.specs.Lexemes.{Lexeme, Stops, IsToken, letters, digits, mark, LexemesAre, none, blank, token, lexemes_from, lexemes}
 use Rattle.lexer.proofs.Heads.{run_step, size_some, one}
-
-same_refl : (k : Class) → same k k ≡ true
-same_refl Letter = refl
-same_refl Digit = refl
-same_refl Blank = refl
-same_refl Mark = refl
-
-is_class : (j k : Class) → same j k ≡ true → j ≡ k
-is_class j k e = same_true the_type (search rules) j k e
+use Rattle.lexer.specs.Equality.{same_class, same_self}
 
 differ : (j k : Class) → (j ≡ k → ⊥) → same j k ≡ false
-differ j k h = elim (same j k) as (λ v. same j k ≡ v → v ≡ false) [ true ↦ λ e. absurd (h (is_class j k e)) | false ↦ λ e. refl ] refl
+differ j k h = elim (same j k) as (λ v. same j k ≡ v → v ≡ false) [ true ↦ λ e. absurd (h (same_class j k e)) | false ↦ λ e. refl ] refl
 
 -- ---- a run at the front of a text
 run_all : (k : Class) (s : List ℕ) → AllByRecursion (λ c. class c ≡ k) (take (run k s) s)
 run_all k [] = tt
 run_all k (b ∷ bs) =
     subst (λ n. AllByRecursion (λ c. class c ≡ k) (take n (b ∷ bs))) (sym (run_step k b bs)) (elim (same (class b) k) as (λ v. same (class b) k ≡ v → AllByRecursion (λ c. class c ≡ k) (take (cond v (suc (run k bs)) 0) (b ∷ bs))) [
-      | true ↦ λ e. (is_class (class b) k e, run_all k bs)
+      | true ↦ λ e. (same_class (class b) k e, run_all k bs)
       | false ↦ λ e. tt
     ] refl)
 
@@ -38,14 +28,14 @@ run_stops k [] = tt
 run_stops k (b ∷ bs) =
     subst (λ n. Stops k (drop n (b ∷ bs))) (sym (run_step k b bs)) (elim (same (class b) k) as (λ v. same (class b) k ≡ v → Stops k (drop (cond v (suc (run k bs)) 0) (b ∷ bs))) [
       | true ↦ λ e. run_stops k bs
-      | false ↦ λ e h. true≢false (sym (ap (λ j. same j k) h ∙ same_refl k) ∙ e)
+      | false ↦ λ e h. true≢false (sym (ap (λ j. same j k) h ∙ same_self k) ∙ e)
     ] refl)
 
 -- a run that stops is as long as it is
 run_whole : (k : Class) (t s : List ℕ) → AllByRecursion (λ c. class c ≡ k) t → Stops k s → run k (t ++ s) ≡ length t
 run_whole k [] [] a h = refl
 run_whole k [] (b ∷ s) a h = run_step k b s ∙ ap (λ v. cond v (suc (run k s)) 0) (differ (class b) k h)
-run_whole k (b ∷ t) s (e, a) h = run_step k b (t ++ s) ∙ ap (λ v. cond v (suc (run k (t ++ s))) 0) (ap (λ j. same j k) e ∙ same_refl k) ∙ ap suc (run_whole k t s a h)
+run_whole k (b ∷ t) s (e, a) h = run_step k b (t ++ s) ∙ ap (λ v. cond v (suc (run k (t ++ s))) 0) (ap (λ j. same j k) e ∙ same_self k) ∙ ap suc (run_whole k t s a h)
 
 -- ---- each text has its tokens
 size_within : (b : ℕ) (bs : List ℕ) (k : Class) → class b ≡ k → size_by k (b ∷ bs) ≤ length (b ∷ bs)
@@ -55,7 +45,7 @@ size_within b bs Blank e = omega arith
 size_within b bs Mark e = omega arith
 
 run_cons : (k : Class) (b : ℕ) (bs : List ℕ) → class b ≡ k → run k (b ∷ bs) ≡ suc (run k bs)
-run_cons k b bs e = run_step k b bs ∙ ap (λ v. cond v (suc (run k bs)) 0) (ap (λ j. same j k) e ∙ same_refl k)
+run_cons k b bs e = run_step k b bs ∙ ap (λ v. cond v (suc (run k bs)) 0) (ap (λ j. same j k) e ∙ same_self k)
 
 first_token : (b : ℕ) (bs : List ℕ) (k : Class) → class b ≡ k → (k ≡ Blank → ⊥) → IsToken (take (size_by k (b ∷ bs)) (b ∷ bs)) (drop (size_by k (b ∷ bs)) (b ∷ bs))
 first_token b bs Letter e n =
@@ -77,7 +67,7 @@ are_lexemes zero p (b ∷ bs) h = absurd (omega arith)
 are_lexemes (suc n) p (b ∷ bs) h = go (same (class b) Blank) refl (are_lexemes n)
   where
     go : (v : Bool) → same (class b) Blank ≡ v → ((q : ℕ) (r : List ℕ) → length r ≤ n → LexemesAre q r (lexemes_from 0 q r)) → LexemesAre p (b ∷ bs) (cond v (lexemes_from 0 (p + 1) bs) (record { place = p; bytes = take (size (b ∷ bs)) (b ∷ bs) } ∷ lexemes_from (size (b ∷ bs) - 1) (p + 1) bs))
-    go true e shorter = blank b (is_class (class b) Blank e) (shorter (p + 1) bs (omega arith))
+    go true e shorter = blank b (same_class (class b) Blank e) (shorter (p + 1) bs (omega arith))
     go false e shorter =
         let m = size (b ∷ bs) in
         let w : m ≤ length (b ∷ bs) = size_within b bs (class b) refl in

@@ -1,14 +1,14 @@
 -- How far ahead an open block is closed, and that an IF comes before its end.
-use Rattle.std.proofs.Common.{◌≡◌, ℕ, zero, suc, ◌<◌, List, [], ◌∷◌, sym, refl, ap, ◌∙◌, subst, arith}
+use Rattle.std.proofs.Common.{ℕ, zero, suc, ◌<◌, List, [], ◌∷◌, refl, ap, subst, arith}
 use Rattle.model.specs.declared.expression.Condition.{Condition}
 use Rattle.model.specs.declared.block.BlockKind.{BlockKind}
 use Rattle.model.specs.declared.block.BlockKind.TheVariants.{While as WhileBlock, If as IfBlock}
 use Rattle.model.specs.declared.line.Line.{Line}
 use Rattle.model.specs.declared.line.Line.TheVariants.{Plain, Setting, Move, While, If, EndIf, EndWhile}
 use Rattle.model.specs.Blocks.{Stack, outer}
-use Rattle.model.specs.Programs.{Stands, Once, Innermost, Leads, Closed}
+use Rattle.model.specs.Programs.{Stands, Once, Leads, Closed}
 use Rattle.model.proofs.Standing.{stands_later}
-use Rattle.model.proofs.Nesting.{opener_opens, Before, outside, inside, opened_before}
+use Rattle.model.proofs.Nesting.{opener_opens, Before, outside, inside, opened_before, Depth, outer_depth, same_block}
 
 -- how many lines on the open block at a depth, innermost 0, is closed
 abbrev pub closing : ℕ → List Line → ℕ
@@ -27,20 +27,6 @@ closing (suc d) (EndWhile l ∷ xs) = suc (closing d xs)
 abbrev pub end_of : BlockKind × ℕ → Line
 end_of (WhileBlock, l) = EndWhile l
 end_of (IfBlock, l) = EndIf l
-
--- the open block at a depth
-abbrev pub Depth : ℕ → BlockKind × ℕ → Stack → Type 0
-Depth d b [] = ⊥
-Depth zero b (o ∷ os) = o ≡ b
-Depth (suc d) b (o ∷ os) = Depth d b os
-
-outer_depth : (d : ℕ) (b : BlockKind × ℕ) (os : Stack) → Depth (suc d) b os → Depth d b (outer os)
-outer_depth d b [] h = absurd h
-outer_depth d b (o ∷ os) h = h
-
-same_block : (b o : BlockKind × ℕ) (os : Stack) → Depth zero b os → Innermost o os → o ≡ b
-same_block b o [] h k = absurd h
-same_block b o (q ∷ os) h k = sym k ∙ h
 
 -- an open block has its end line there
 pub closing_stands : (d : ℕ) (b : BlockKind × ℕ) (os : Stack) (xs : List Line) → Leads os xs [] → Depth d b os → Stands xs (closing d xs) (end_of b)

@@ -1,3 +1,4 @@
+pub mod Numbers
 pub mod Standing
 pub mod Nesting
 pub mod Ends

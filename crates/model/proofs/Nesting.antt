@@ -75,16 +75,16 @@ ended_later : (y : Line) (ys : List Line) (b : BlockKind × ℕ) → EndedIn ys 
 ended_later y ys b (j, x, st, e) = (suc j, x, stands_later st, e)
 
 -- the open block at a depth, the innermost at 0
-abbrev Depth : ℕ → BlockKind × ℕ → Stack → Type 0
+abbrev pub Depth : ℕ → BlockKind × ℕ → Stack → Type 0
 Depth d b [] = ⊥
 Depth zero b (o ∷ os) = o ≡ b
 Depth (suc d) b (o ∷ os) = Depth d b os
 
-outer_depth : (d : ℕ) (b : BlockKind × ℕ) (os : Stack) → Depth (suc d) b os → Depth d b (outer os)
+pub outer_depth : (d : ℕ) (b : BlockKind × ℕ) (os : Stack) → Depth (suc d) b os → Depth d b (outer os)
 outer_depth d b [] h = absurd h
 outer_depth d b (o ∷ os) h = h
 
-same_block : (b o : BlockKind × ℕ) (os : Stack) → Depth zero b os → Innermost o os → o ≡ b
+pub same_block : (b o : BlockKind × ℕ) (os : Stack) → Depth zero b os → Innermost o os → o ≡ b
 same_block b o [] h k = absurd h
 same_block b o (q ∷ os) h k = sym k ∙ h
 

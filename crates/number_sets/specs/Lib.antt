@@ -1,3 +1,4 @@
 pub mod Sets
 pub mod Exact
 pub mod Pairs
+pub mod Clamped

@@ -18,7 +18,7 @@ use Rattle.model.specs.Values.{register, evaluate, holds, term as number}
 use Rattle.model.specs.Written.{Written, WrittenCondition}
 use Rattle.domain.specs.Lattice.{empty, single}
 use Rattle.domain.specs.Tracking.{Tracking}
-use Rattle.domain.specs.Environments.{lies_in, in_lies}
+use Rattle.model.proofs.Numbers.{lies_in, in_lies}
 use Rattle.number_sets.specs.declared.sets.Pair.{Pair}
 use Rattle.number_sets.specs.Sets.{NumberSets, LawfulSets}
 use Rattle.number_sets.specs.Exact.{ExactSets}

@@ -20,7 +20,7 @@ use Rattle.model.specs.Sides.{axis_register, Holds}
 use Rattle.model.specs.Values.{register, evaluate, holds, term as number}
 use Rattle.model.specs.Written.{Written, WrittenTerm, WrittenCondition}
 use Rattle.domain.specs.Lattice.{Lawful, Inside, empty}
-use Rattle.domain.specs.Environments.{lies_in, in_lies}
+use Rattle.model.proofs.Numbers.{lies_in, in_lies}
 use Rattle.number_sets.specs.declared.sets.Pair.{Pair}
 use Rattle.number_sets.specs.Sets.{NumberSets, LawfulSets, HasSome, HasPair}
 use Rattle.pointwise.specs.States.{State, of, term, value, means, rank, changed, put, narrow, keep, kept_sides}

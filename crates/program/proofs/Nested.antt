@@ -13,6 +13,7 @@ use Rattle.program.specs.declared.refusal.TableRefusal.{TableRefusal}
 use Rattle.program.specs.declared.refusal.TableRefusal.TheVariants.{Lines, Label, Blocks, End}
 use Rattle.program.specs.Refusals.{max_lines, max_blocks, same_kind, fits, role_answer, push_answer, all_taken}
 use Rattle.program.proofs.Readings.{open_more}
+use Rattle.grammar.proofs.Mores.{true_false}
 
 -- ---- one line more
 leads_more : (os us : Stack) (xs : List Line) (x : Line) → Leads os xs us → Fits us (role_of x) → Leads os (xs ++ (x ∷ [])) (past us (role_of x))
@@ -56,14 +57,11 @@ had (y ∷ ys) (suc i) l x st e n = had_later n l (role_of y) (labels ys) (had y
 abbrev New : List Line → Line → Type 0
 New xs x = (l : ℕ) → opening (role_of x) ≡ Some l → is_some (place_from 0 (labels xs) l) ≡ false
 
-clash : {P : Type 0} {b : Bool} → b ≡ true → b ≡ false → P
-clash p q = absurd (true≢false (sym p ∙ q))
-
 once_by : (xs : List Line) (x a b : Line) (i k l : ℕ) → Once xs → New xs x → opening (role_of a) ≡ Some l → opening (role_of b) ≡ Some l →
     Stands xs i a ⊎ ((i ≡ length xs) × (x ≡ a)) → Stands xs k b ⊎ ((k ≡ length xs) × (x ≡ b)) → i ≡ k
 once_by xs x a b i k l o n p q (inl s) (inl t) = o i k l a b s t p q
-once_by xs x a b i k l o n p q (inl s) (inr t) = clash (had xs i l a s p 0) (n l (ap (λ (z : Line). opening (role_of z)) t.1 ∙ q))
-once_by xs x a b i k l o n p q (inr s) (inl t) = clash (had xs k l b t q 0) (n l (ap (λ (z : Line). opening (role_of z)) s.1 ∙ p))
+once_by xs x a b i k l o n p q (inl s) (inr t) = true_false (had xs i l a s p 0) (n l (ap (λ (z : Line). opening (role_of z)) t.1 ∙ q))
+once_by xs x a b i k l o n p q (inr s) (inl t) = true_false (had xs k l b t q 0) (n l (ap (λ (z : Line). opening (role_of z)) s.1 ∙ p))
 once_by xs x a b i k l o n p q (inr s) (inr t) = s.0 ∙ sym t.0
 
 once_more : (xs : List Line) (x : Line) → Once xs → New xs x → Once (xs ++ (x ∷ []))

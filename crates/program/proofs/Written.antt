@@ -1,7 +1,5 @@
 -- The test of written lines says what it means, and still passes with one written line more.
-use Rattle.std.proofs.Common.{◌≡◌, true, List, [], ◌∷◌, ◌++◌, ℤ, Some, None, refl, arith}
-use lib.Signed.{le_z}
-use Rattle.std.proofs.lemmas.Int.{ints}
+use Rattle.std.proofs.Common.{◌≡◌, true, List, [], ◌∷◌, ◌++◌, Some, None, refl}
 use Rattle.std.proofs.lemmas.Bool.{and_parts, and_from}
 use Rattle.std.specs.List.{AllByRecursion}
 use Rattle.model.specs.declared.expression.Term.{Term}
@@ -11,19 +9,15 @@ use Rattle.model.specs.declared.expression.Expression.TheVariants.{Bare, Apply}
 use Rattle.model.specs.declared.expression.Condition.{Condition}
 use Rattle.model.specs.declared.line.Line.{Line}
 use Rattle.model.specs.declared.line.Line.TheVariants.{Plain, Setting, Move, While, If, EndIf, EndWhile}
-use Rattle.model.specs.Environments.{Lies, full, fit}
+use Rattle.model.specs.Environments.{full}
 use Rattle.model.specs.Values.{Values, four}
 use Rattle.model.specs.Written.{WrittenTerm, Written, WrittenCondition, WrittenValues, WrittenLine}
 use Rattle.program.specs.Written.{is_written_term, is_written_expression, is_written_condition, are_written_values, is_written, all_written}
+use Rattle.model.proofs.Numbers.{lies_in, in_lies}
 
 -- ---- what passes is written
-fit_lies : (n : ℤ) → fit n ≡ true → Lies n full
-fit_lies n h =
-    let q = and_parts (le_z full.lo n) (le_z n full.hi) h in
-    record { low = grind (arith, ints); high = grind (arith, ints) }
-
 passing_term : (t : Term) → is_written_term t ≡ true → WrittenTerm t
-passing_term (Number n) h = fit_lies n h
+passing_term (Number n) h = lies_in n full h
 passing_term (Held p) h = tt
 
 passing_expression : (e : Expression) → is_written_expression e ≡ true → Written e
@@ -54,11 +48,8 @@ passing_lines [] h = tt
 passing_lines (x ∷ xs) h = let q = and_parts (is_written x) (all_written xs) h in (passing_line x q.0, passing_lines xs q.1)
 
 -- ---- what is written passes
-lies_fit : (n : ℤ) → Lies n full → fit n ≡ true
-lies_fit n h = and_from (le_z full.lo n) (le_z n full.hi) (grind (arith, ints)) (grind (arith, ints))
-
 term_passes : (t : Term) → WrittenTerm t → is_written_term t ≡ true
-term_passes (Number n) h = lies_fit n h
+term_passes (Number n) h = in_lies n full h
 term_passes (Held p) h = refl
 
 expression_passes : (e : Expression) → Written e → is_written_expression e ≡ true

@@ -23,13 +23,14 @@ use Rattle.program.specs.Held.{held}
 use Rattle.runner.specs.Drying.{start}
 use Rattle.session.specs.Answers.{is_proper, max_steps, dry_answer}
 use Rattle.session.specs.Promises.{DryEnds, LikeDry}
-use Rattle.session.proofs.Proper.{lies_in, itself, proper_fits, fits, each_passes}
+use Rattle.session.proofs.Proper.{itself, proper_fits, each_passes}
 use Rattle.session.proofs.Standing.{closed_test}
 use Rattle.session.proofs.Beginning.{LimitedAll, six, start_legal}
+use Rattle.model.proofs.Numbers.{lies_in, in_lies}
 
 -- single values in proper ranges are within the limit
 single_fits : (v : ℤ) → is_proper (single v) ≡ true → fit v ≡ true
-single_fits v h = fits v (proper_fits v (single v) h (itself v))
+single_fits v h = in_lies v full (proper_fits v (single v) h (itself v))
 
 singles_fit : (vs : List ℤ) → list_all is_proper (map single vs) ≡ true → list_all fit vs ≡ true
 singles_fit [] h = refl

@@ -5,7 +5,7 @@ use Rattle.std.proofs.lemmas.Bool.Decides.{nat_tests}
 use Rattle.model.specs.declared.range.Range.{Range}
 use Rattle.model.specs.Environments.{Lies, lies, full}
 use Rattle.session.specs.Answers.{outside_from}
-use Rattle.session.proofs.Proper.{lies_in}
+use Rattle.model.proofs.Numbers.{lies_in}
 
 abbrev pub is_outside : Range × ℤ → Bool
 is_outside q = not (lies q.1 q.0)

@@ -1,20 +1,11 @@
 -- Numbers in ranges, and tables of proper ranges.
 use Rattle.std.proofs.Common.{◌≡◌, ℕ, zero, suc, ◌<◌, Bool, true, false, cond, ◌||◌, List, [], ◌∷◌, length, get_or, set, ℤ, Some, None, Option, ltb, arith}
-use lib.Signed.{le_z}
 use Rattle.std.proofs.lemmas.Int.{ints}
 use Rattle.std.proofs.lemmas.Bool.{and_parts, and_from}
 use Rattle.std.specs.List.{list_all}
 use Rattle.model.specs.declared.range.Range.{Range}
-use Rattle.model.specs.Environments.{Lies, lies, full, fit, parameters}
+use Rattle.model.specs.Environments.{Lies, full, parameters}
 use Rattle.session.specs.Answers.{is_proper, allow_answer}
-
-pub lies_in : (n : ℤ) (x : Range) → lies n x ≡ true → Lies n x
-lies_in n x h =
-    let q = and_parts (le_z x.lo n) (le_z n x.hi) h in
-    record { low = grind (arith, ints); high = grind (arith, ints) }
-
-pub fits : (n : ℤ) → Lies n full → fit n ≡ true
-fits n h = and_from (le_z full.lo n) (le_z n full.hi) (grind (arith, ints)) (grind (arith, ints))
 
 pub itself : (n : ℤ) → Lies n (record { lo = n; hi = n })
 itself n = record { low = grind (arith, ints); high = grind (arith, ints) }

@@ -1,8 +1,7 @@
 -- What a session that keeps to its certificate knows of its run, and how a step and a start keep to it.
-use Rattle.std.proofs.Common.{◌≡◌, ℕ, true, false, ◌≤ℤ◌, int_le, is_none, List, [], ◌∷◌, ℤ, Some, None, Option, option_map, sym, refl, ap, ◌∙◌, subst, arith}
+use Rattle.std.proofs.Common.{◌≡◌, ℕ, true, false, is_none, List, [], ◌∷◌, ℤ, Some, None, Option, option_map, sym, refl, ap, ◌∙◌, subst, arith}
 use mathlib.Core.Bool.{Bool-set}
 use mathlib.Core.Logic.{∥∥₁_elim, ∥∥₁_map}
-use Rattle.std.proofs.Math.Dec.{T_prop}
 use Rattle.model.specs.declared.line.Line.{Line}
 use Rattle.model.specs.declared.range.Range.{Range}
 use Rattle.model.specs.declared.side.Side.{Side}
@@ -26,6 +25,7 @@ use Rattle.runner.specs.Plain.{run_at, From, PlainStep}
 use Rattle.runner.specs.Steps.{Went, gone, by_place, step_of}
 use Rattle.session.specs.Promises.{InCertificate}
 use Rattle.session.specs.Standing.{HasCome, Secure}
+use Rattle.model.proofs.Numbers.{le_prop}
 
 -- ---- closed programs pass the test
 leads_open : (os us : Stack) (xs : List Line) → Leads os xs us → open_after os xs ≡ us
@@ -36,9 +36,6 @@ pub closed_test : (lines : List Line) → Closed lines → closed lines ≡ true
 closed_test lines c = ap is_empty (leads_open [] [] lines c.nested)
 
 -- ---- to be fine is a proposition
-le_prop : (a b : ℤ) → IsProp (a ≤ℤ b)
-le_prop a b x y i = record { le = T_prop (int_le a b) x.le y.le i }
-
 all_hold_prop : (p : Position) (ss : List Side) → IsProp (AllHold p ss)
 all_hold_prop p [] x y i = tt
 all_hold_prop p (s ∷ ss) x y i = (le_prop _ _ x.0 y.0 i, all_hold_prop p ss x.1 y.1 i)

@@ -19,7 +19,7 @@ pub struct Ranges {
 }
 
 // Whether the parameter, from 1, may be allowed the range. It is given by its number, since numbers of no parameter are refused here.
-pub fn check_range(parameter: u32, range: Range) -> Result<(), AllowRefusal>
+fn check_range(parameter: u32, range: Range) -> Result<(), AllowRefusal>
     ensures says { allow_said result ≡ allow_answer parameter range }
     ensures known { OnOk result ((1 ≤ parameter) × (parameter ≤ parameters)) }
 {

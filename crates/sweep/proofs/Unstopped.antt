@@ -11,7 +11,7 @@ use Rattle.model.specs.Reached.{Reached, begins, goes_on, commanded}
 use Rattle.model.specs.Whole.{LeadsTo, here, on, inside, Dry, ended, running, faulted, left}
 use Rattle.model.proofs.Standing.{none_some}
 use Rattle.domain.specs.Lattice.{Lattice, Lawful}
-use Rattle.domain.specs.Environments.{le_true}
+use Rattle.model.proofs.Numbers.{le_true}
 use Rattle.sweep.specs.Sound.{Safe, NotStopped, NeverStops}
 use Rattle.sweep.proofs.Certified.{certified_sound}
 

@@ -1,3 +1,5 @@
 pub mod Digits
 pub mod Searches
 pub mod NumberTexts
+pub mod Cutting
+pub mod NumberGrammar

@@ -2,9 +2,9 @@
 
 #![tactic(auto)]
 
-ghost use Rattle.std.specs.Prelude.{◌≡◌, ◌≤◌, length, pos, neg_ℤ, ◌≤ℤ◌, IfSome};
+ghost use Rattle.std.specs.Prelude.{◌≡◌, ◌≤◌, length, ℤ, pos, neg_ℤ, ◌≤ℤ◌, Some, IfSome};
 ghost use Rattle.words.specs.Cuts.{until};
-ghost use Rattle.words.specs.Numbers.{all_digits, natural_of, number_of};
+ghost use Rattle.words.specs.Numbers.{all_digits, natural_of, number_of, NumberIs};
 
 use lexer::digits;
 
@@ -35,12 +35,20 @@ fn natural(text: &[u8]) -> Option<i32>
     Some(digits::number(text) as i32)
 }
 
-// The number that the text is, if it is one.
-pub fn number(text: &[u8]) -> Option<i32>
+fn signed(text: &[u8]) -> Option<i32>
     ensures { result ≡ number_of text.now }
 {
     match text {
         [b'-', rest @ ..] => natural(rest).map(|n| -n),
         _ => natural(text),
     }
+}
+
+// The number that the text is, exactly if the grammar has it.
+pub fn number(text: &[u8]) -> Option<i32>
+    ensures is { result ≡ number_of text.now }
+    ensures reads { (n : ℤ) → NumberIs text.now n → result ≡ Some n }
+    ensures only { IfSome result (NumberIs text.now) }
+{
+    signed(text)
 }

@@ -15,4 +15,4 @@ returns g c =
     let run = old.rest.rest in
     let ran = new.rest.rest in
     let kept = run_certified (t.region u) (t.sides u) (t.origin u) by (length old.rest.first.store.now) r.result.1.0 run.first.values r.result.1.1.0 run.rest.calls.now ran.rest.calls.now ran.rest.answers.now r.ensures.stays.1.1.1.0.1 es r.ensures.law in
-    record { judged = kept.0; inside = kept.1 }
+    record { judged = kept.0; inside = kept.1; stays = r.ensures.stays; law = (r.result.1.1.0, r.ensures.law) }

@@ -6,4 +6,4 @@ use Rattle.command.proofs.numbers.next_number.Goals as goal
 pub returns : goal.returns
 returns c =
     let fits : SFits w32 c.in_ok-number.field-0 = search rules in
-    simp to_z-of_z (first_number _ _ _ _ c.in_ok-word.ensures c.in_ok-number.ensures)
+    simp to_z-of_z (first_number _ _ _ _ c.in_ok-word.ensures c.in_ok-number.ensures.is)
