@@ -1,7 +1,7 @@
 -- A text cut at its first line feed.
 use Rattle.std.proofs.Common.{◌≡◌, ℕ, suc, ◌+◌, ◌-◌, ◌<◌, ◌≤◌, Bool, true, false, cond, eqb, List, [], ◌∷◌, length, take, drop, Option, MatchOption, unwrap_or, sym, refl, ap, ◌∙◌, subst, add-one, arith, length-drop}
 use Rattle.std.proofs.lemmas.Iterator.{index_from_first}
-use Rattle.std.proofs.lemmas.List.{take_rest}
+use Rattle.std.proofs.lemmas.List.{take_rest, length-take-le, drop_all}
 use Rattle.std.specs.List.{AllWithin, HoldsAt}
 use Rattle.words.specs.Cuts.{until}
 use Rattle.console.specs.Lines.{before, lines_of}
@@ -37,11 +37,13 @@ pub stop_at : (stop : ℕ) (bs : List ℕ) (r : Option ℕ) → MatchOption r (A
 stop_at stop = index_from_first (until stop) (λ b. eqb b stop ≡ true) (λ b. eqb b stop ≡ false) refl (λ b bs e. rw e refl) (λ b bs e. rw e refl)
 
 -- the two ways of `first_line`
-pub line_there : (bs : List ℕ) (n : ℕ) → until 10 bs ≡ n → n < length bs → (lines_of bs ≡ take n bs ∷ lines_of (take (length bs - (n + 1)) (drop (n + 1) bs))) × (length (take (length bs - (n + 1)) (drop (n + 1) bs)) < length bs)
+pub line_there : (bs : List ℕ) (n : ℕ) → until 10 bs ≡ n → n < length bs →
+    (lines_of bs ≡ take n bs ∷ lines_of (take (length bs - (n + 1)) (drop (n + 1) bs))) × (length (take (length bs - (n + 1)) (drop (n + 1) bs)) < length bs) × (take (length bs - (n + 1)) (drop (n + 1) bs) ≡ drop (length (take n bs) + 1) bs)
 line_there bs n e h =
     let cut = cut_there bs (subst (λ k. k < length bs) (sym e) h) in
     let same : lines_of bs ≡ take n bs ∷ lines_of (drop (n + 1) bs) = subst (λ k. lines_of bs ≡ take k bs ∷ lines_of (drop (k + 1) bs)) e cut in
-    rw (take_rest bs (n + 1)) (same, rw length-drop (omega arith))
+    let long : length (take n bs) ≡ n = length-take-le n bs (omega arith) in
+    rw (take_rest bs (n + 1), long) (same, rw length-drop (omega arith), refl)
 
-pub line_last : (bs : List ℕ) → until 10 bs ≡ length bs → (length bs ≡ 0 → ⊥) → (lines_of bs ≡ bs ∷ []) × (0 < length bs)
-line_last bs e some = (cut_rest bs some (omega (arith, e)), omega (arith, some))
+pub line_last : (bs : List ℕ) → until 10 bs ≡ length bs → (length bs ≡ 0 → ⊥) → (lines_of bs ≡ bs ∷ []) × (0 < length bs) × ([] ≡ drop (length bs + 1) bs)
+line_last bs e some = (cut_rest bs some (omega (arith, e)), omega (arith, some), sym (drop_all (length bs + 1) bs (omega arith)))

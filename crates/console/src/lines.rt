@@ -1,11 +1,11 @@
 // The lines of a text.
-ghost use Rattle.std.specs.Prelude.{◌≡◌, ◌<◌, [], ◌∷◌, length, MatchOption};
+ghost use Rattle.std.specs.Prelude.{◌≡◌, ◌+◌, ◌<◌, [], ◌∷◌, length, drop, MatchOption};
 ghost use Rattle.std.specs.Iterator.{at_most};
 ghost use Rattle.console.specs.Lines.{lines_of};
 
 // The first line, and what follows its line feed.
 pub fn first_line(text: &[u8]) -> Option<(&[u8], &[u8])>
-    ensures { MatchOption result (lines_of text.now ≡ []) (λ p. (lines_of text.now ≡ p.0.now ∷ lines_of p.1.now) × (length p.1.now < length text.now)) }
+    ensures { MatchOption result (lines_of text.now ≡ []) (λ p. (lines_of text.now ≡ p.0.now ∷ lines_of p.1.now) × (length p.1.now < length text.now) × (p.1.now ≡ drop (length p.0.now + 1) text.now)) }
 {
     if text.is_empty() {
         return None;

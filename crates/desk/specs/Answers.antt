@@ -1,7 +1,5 @@
 -- What a call is answered, as the law has it, and the text of what is said of a line that makes none.
 use Rattle.std.specs.Prelude.{ℕ, List, ◌++◌, Ok, Err, codes, decimal, Result}
-use Rattle.certify.specs.declared.refusal.CertifyRefusal.{CertifyRefusal}
-use Rattle.certify.specs.declared.refusal.CertifyRefusal.TheVariants.{Open, Store, Uncertified}
 use Rattle.certify.specs.Refusals.{certify_number}
 use Rattle.program.specs.Entry.{line_number, line_place}
 use Rattle.session.specs.Answers.{allow_number, dry_number, start_number, start_parameter, step_number}
