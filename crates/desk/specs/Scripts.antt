@@ -24,6 +24,7 @@ use Rattle.calls.specs.Answers.{domain, event}
 use Rattle.calls.specs.Law.{AnyDomain, Event, Call, line as Line, allow as Allow, wipe as Wipe, certify as Certify, start as Start, step as Step, dry as Dry}
 use Rattle.desk.specs.declared.answer.Note.TheVariants.{Bad, NoTable}
 use Rattle.desk.specs.declared.answer.Reply.{Reply}
+use Rattle.desk.specs.declared.answer.Reply.TheVariants.{Done}
 use Rattle.desk.specs.declared.entry.Entry.{Entry}
 use Rattle.desk.specs.declared.entry.Entry.TheVariants.{Call as ACall, Note as ANote, Table as ATable}
 use Rattle.desk.specs.Answers.{said, note_text}
@@ -106,6 +107,12 @@ abbrev pub events_of : Entry → Reply → List Event
 events_of (ACall c) a = event (call_of c) (said a) ∷ []
 events_of (ATable t) a = []
 events_of (ANote n) a = []
+
+-- an entry stays as it is, and one that asks for no call is answered that it is done
+abbrev pub Stays : Entry → Entry → Reply → Type 0
+Stays (ACall c) d a = d ≡ ACall c
+Stays (ATable t) d a = (d ≡ ATable t) × (a ≡ Done)
+Stays (ANote n) d a = (d ≡ ANote n) × (a ≡ Done)
 
 -- what is printed for an entry: of a call its reply, of a table that it is there, and a note itself
 abbrev pub answer_text : Entry → Reply → List ℕ

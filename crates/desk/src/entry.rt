@@ -7,7 +7,7 @@ ghost use Rattle.calls.specs.Law.{certify};
 ghost use Rattle.calls.specs.Said.{by_verdict};
 ghost use Rattle.calls.specs.Playing.{AllKept, afters};
 ghost use Rattle.desk.specs.Answers.{said_or_why};
-ghost use Rattle.desk.specs.Scripts.{domain_named, call_of, events_of, table_in, answer_text};
+ghost use Rattle.desk.specs.Scripts.{domain_named, call_of, events_of, table_in, answer_text, Stays};
 
 use crate::answer::{Note, Refusal, Reply};
 use crate::desk::Table;
@@ -127,7 +127,7 @@ impl<'a> Calls for Entry<'a> {
 
     ghost events = { λ entry _ reply. events_of entry reply };
 
-    ghost stays = { λ c d _. d ≡ c };
+    ghost stays = { Stays };
 
     fn play<T: Travel>(&mut self, session: &mut Session<T>) -> Reply {
         match *self {

@@ -3,7 +3,7 @@
 
 #![tactic(auto)]
 
-pub mod bezout;
+mod bezout;
 pub mod equations;
 pub mod euclid;
 pub mod remainders;

@@ -10,11 +10,7 @@ pub fn remainder(z: i64, m: u64) -> i64
     ensures high { result <ℤ pos m }
 {
     // A division is slow, and most registers are known by the modulus 1 alone.
-    if m == 1 {
-        0
-    } else {
-        z.rem_euclid(m as i64)
-    }
+    if m == 1 { 0 } else { z.rem_euclid(m as i64) }
 }
 
 // Whether n divides m; 0 divides 0 alone.

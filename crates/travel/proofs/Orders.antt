@@ -4,13 +4,14 @@ use lib.Signed.{le_z}
 use Rattle.std.proofs.lemmas.Int.{ints}
 use Rattle.std.proofs.lemmas.Bool.{and_parts}
 use Rattle.std.proofs.lemmas.Bool.Decides.{Decides-and, Decides-like}
+use Rattle.std.specs.Bool.{Decides}
 use Rattle.model.specs.Limits.{limit}
 use Rattle.model.specs.Axes.{Position}
-use Rattle.travel.specs.Travels.{Judges, Within, Ordered, Between}
+use Rattle.travel.specs.Travels.{Within, Ordered, Between}
 use Rattle.travel.specs.Gantries.{in_order, lies_in, inside_ends}
 use Rattle.travel.specs.Beams.{gap_fits}
 
-pub le_judges : (a b : ℤ) → Judges (le_z a b) (a ≤ℤ b)
+pub le_judges : (a b : ℤ) → Decides (le_z a b) (a ≤ℤ b)
 le_judges a b = (λ h. grind (arith, ints), λ h. grind (arith, ints))
 
 -- three tests that passed
@@ -30,10 +31,10 @@ ordered_ends lo home hi h =
     let l = le_three _ _ _ _ _ _ k.0 in
     (l.0, l.1, l.2, (le_judges _ _).0 k.1)
 
-lies_judges : (lo n hi : ℤ) → Judges (lies_in lo n hi) (Within lo n hi)
+lies_judges : (lo n hi : ℤ) → Decides (lies_in lo n hi) (Within lo n hi)
 lies_judges lo n hi = Decides-and _ _ (le_judges lo n) (le_judges n hi)
 
-pub between_judges : (lower p upper : Position) → Judges (inside_ends lower p upper) (Between lower p upper)
+pub between_judges : (lower p upper : Position) → Decides (inside_ends lower p upper) (Between lower p upper)
 between_judges lower p upper =
     let xy = Decides-and _ _ (lies_judges lower.x p.x upper.x) (lies_judges lower.y p.y upper.y) in
     let xyz = Decides-and _ _ xy (lies_judges lower.z p.z upper.z) in

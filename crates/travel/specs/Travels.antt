@@ -1,14 +1,10 @@
 -- What makes a travel lawful: its region is exactly where its sides hold, home is in it, and the sides are few and proper.
-use Rattle.std.specs.Prelude.{◌≡◌, ◌*◌, ◌≤◌, Bool, true, List, length, ℤ, pos, neg_ℤ, ◌≤ℤ◌}
+use Rattle.std.specs.Prelude.{◌≡◌, ◌*◌, ◌≤◌, List, length, ℤ, pos, neg_ℤ, ◌≤ℤ◌}
 use Rattle.std.specs.List.{AllByRecursion}
 use Rattle.model.specs.Limits.{limit}
 use Rattle.model.specs.Sides.{AllHold}
 use Rattle.model.specs.Axes.{Position}
 use Rattle.model.specs.declared.side.Side.{Side}
-
--- the answer is true exactly where P holds
-abbrev pub Judges : Bool → Type 0 → Type 0
-Judges r P = (r ≡ true → P) × (P → r ≡ true)
 
 abbrev pub Within : ℤ → ℤ → ℤ → Type 0
 Within lo n hi = (lo ≤ℤ n) × (n ≤ℤ hi)

@@ -3,7 +3,8 @@ ghost use Rattle.std.specs.Prelude.{◌≡◌, List, length};
 ghost use Rattle.model.specs.Sides.{side_at};
 ghost use Rattle.model.specs.Axes.{Position};
 ghost use Rattle.model.specs.declared.side.Side.{Side};
-ghost use Rattle.travel.specs.Travels.{Judges, Lawful};
+ghost use Rattle.std.specs.Bool.{Decides};
+ghost use Rattle.travel.specs.Travels.{Lawful};
 
 use model::axes::Position;
 use model::side::Side;
@@ -26,7 +27,7 @@ pub trait Travel {
         ensures { result ≡ origin self.now };
 
     fn inside(&self, p: Position) -> bool
-        ensures { Judges result (region self.now p) };
+        ensures { Decides result (region self.now p) };
 
     ghost lawful: { (t : Self) → Lawful (region t) (sides t) (origin t) };
 }
