@@ -17,10 +17,10 @@ impl From<u8> for Class {
 
     fn from(b: u8) -> Class {
         // the same tests as of the runs below, so that none is made twice
-        if b.is_ascii_alphabetic() {
-            Class::Letter
-        } else if b.is_ascii_digit() {
+        if b.is_ascii_digit() {
             Class::Digit
+        } else if b.is_ascii_alphabetic() {
+            Class::Letter
         } else if b == b' ' {
             Class::Blank
         } else {

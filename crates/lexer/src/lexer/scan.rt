@@ -23,6 +23,7 @@ impl<'a> Lexer<'a> {
     }
 
     // The next token, past blanks.
+    #[inline(always)]
     pub fn next(&mut self) -> Option<Token<'a>>
         ensures text { self.new.text ≡ self.old.text }
         ensures heads { Heads self.old.text.now self.old.at result self.new.at }

@@ -24,6 +24,7 @@ impl<'a> Reader<'a> {
         }
     }
 
+    #[inline(always)]
     fn term(&mut self) -> Result<Term, Refusal>
         ensures { Parses term self.old.lexer result self.new.lexer }
     {
