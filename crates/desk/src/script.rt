@@ -17,10 +17,10 @@ fn note_answers<'a>(
     requires { length stretch.now.answers.now ≡ length stretch.now.calls.now }
     ensures { IfOk result (λ _. answers.new.items ≡ answers.old.items ++ paired stretch.now.calls.now stretch.now.answers.now) }
 {
-    for (n, entry) in stretch.calls.iter().enumerate() {
+    for (entry, reply) in stretch.calls.iter().zip(stretch.answers.iter()) {
         answers.push(Answer {
             entry: *entry,
-            reply: stretch.answers[n],
+            reply: *reply,
         })?;
     }
     Ok(())
