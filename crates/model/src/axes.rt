@@ -45,15 +45,15 @@ impl<T: Copy> Axes<T> {
         }
     }
 
-    // The same but for the axis, which gets the new one.
-    pub fn with(self, axis: Axis, new: T) -> Axes<T>
-        ensures { result ≡ replaced axis new self }
+    // Gives the axis a new one.
+    pub fn set(&mut self, axis: Axis, new: T)
+        ensures { self.new ≡ replaced axis new self.old }
     {
         match axis {
-            Axis::X => Axes { x: new, ..self },
-            Axis::Y => Axes { y: new, ..self },
-            Axis::Z => Axes { z: new, ..self },
-            Axis::U => Axes { u: new, ..self },
+            Axis::X => self.x = new,
+            Axis::Y => self.y = new,
+            Axis::Z => self.z = new,
+            Axis::U => self.u = new,
         }
     }
 }

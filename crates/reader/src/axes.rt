@@ -1,23 +1,9 @@
 // A move from the values of its axes, and its motion from its digit.
 ghost use Rattle.std.specs.Prelude.{◌≡◌};
-ghost use Rattle.grammar.specs.Axes.{put, motion_of, moved};
+ghost use Rattle.grammar.specs.Axes.{motion_of, moved};
 
 use grammar::axes::AxisValues;
-use model::expression::Value;
-use model::line::{Axis, Line, Motion};
-
-// Gives the axis its value, in place.
-pub fn give(values: &mut AxisValues, axis: Axis, value: Value)
-    ensures { values.new ≡ put values.old axis value }
-{
-    let given = Some(value);
-    match axis {
-        Axis::X => values.x = given,
-        Axis::Y => values.y = given,
-        Axis::Z => values.z = given,
-        Axis::U => values.u = given,
-    }
-}
+use model::line::{Line, Motion};
 
 // The move that the values make.
 pub fn moved(motion: Motion, values: AxisValues) -> Line

@@ -58,7 +58,7 @@ impl<'a> Reader<'a> {
             });
         }
         let v = self.value()?;
-        axes::give(values, a, v);
+        values.set(a, Some(v));
         self.more(values)
     }
 
@@ -67,7 +67,7 @@ impl<'a> Reader<'a> {
         ensures { Parses (more_words motion (put no_values a v)) self.old.lexer result self.new.lexer }
     {
         let mut values = AxisValues::default();
-        axes::give(&mut values, a, v);
+        values.set(a, Some(v));
         self.more(&mut values)?;
         Ok(axes::moved(motion, values))
     }
