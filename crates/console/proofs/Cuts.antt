@@ -3,8 +3,8 @@ use Rattle.std.proofs.Common.{◌≡◌, ℕ, suc, ◌+◌, ◌-◌, ◌<◌, �
 use Rattle.std.proofs.lemmas.Iterator.{index_from_first}
 use Rattle.std.proofs.lemmas.List.{take_rest, length-take-le, drop_all}
 use Rattle.std.specs.List.{AllWithin, HoldsAt}
-use Rattle.words.specs.Cuts.{until}
-use Rattle.console.specs.Lines.{before, lines_of}
+use Rattle.words.specs.Cuts.{until, before}
+use Rattle.console.specs.Lines.{lines_of}
 
 -- the line feed is there
 pub cut_there : (bs : List ℕ) → until 10 bs < length bs → lines_of bs ≡ take (until 10 bs) bs ∷ lines_of (drop (until 10 bs + 1) bs)
