@@ -2,8 +2,8 @@
 use Rattle.std.proofs.Common.{◌≡◌, ℕ, ◌+◌, ◌-◌, ◌≤◌, Bool, true, false, cond, eqb, List, [], ◌∷◌, length, get_or, take, drop, sym, refl, ap, ◌∙◌, add-one, arith}
 use Rattle.std.proofs.lemmas.Bool.{eq-eqb}
 use Rattle.std.proofs.lemmas.List.{take_rest}
-use Rattle.words.specs.Cuts.{until}
-use Rattle.command.specs.Words.{before, words_of, arguments}
+use Rattle.words.specs.Cuts.{until, before}
+use Rattle.command.specs.Words.{words_of, arguments}
 
 -- the first word, and the others
 pub cut : (bs : List ℕ) → words_of bs ≡ take (until 32 bs) bs ∷ arguments (drop (until 32 bs) bs)

@@ -5,11 +5,7 @@ use Rattle.command.specs.declared.word.Word.{Word}
 use Rattle.command.specs.declared.word.Word.TheVariants.{BenchGantry, BenchBeam, Gantry, Beam, Line, Allow, Wipe, Start, Step, Dry, Certify}
 use Rattle.command.specs.declared.domain_name.DomainName.{DomainName}
 use Rattle.command.specs.declared.domain_name.DomainName.TheVariants.{Intervals, Congruences, IntervalsAndCongruences, CongruencesAndIntervals, TwiceIntervals}
-
--- a byte in front of the first word
-abbrev pub before : ℕ → List (List ℕ) → List (List ℕ)
-before b [] = (b ∷ []) ∷ []
-before b (w ∷ ws) = (b ∷ w) ∷ ws
+use Rattle.words.specs.Cuts.{before}
 
 -- the words, of which two blanks in a row have an empty one between them
 abbrev pub words_of : List ℕ → List (List ℕ)

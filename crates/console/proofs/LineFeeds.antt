@@ -1,7 +1,8 @@
 -- Each text has its lines, and no others.
 use Rattle.std.proofs.Common.{◌≡◌, ℕ, Bool, true, false, cond, eqb, List, [], ◌∷◌, ◌++◌, sym, refl, ap, ◌∙◌, subst}
 use Rattle.std.proofs.lemmas.Bool.{eqb-true}
-use Rattle.console.specs.Lines.{before, lines_of, NoFeed, LinesAre, none, last, more}
+use Rattle.console.specs.Lines.{lines_of, NoFeed, LinesAre, none, last, more}
+use Rattle.words.specs.Cuts.{before}
 
 one_before : (b : ℕ) (bs : List ℕ) (ls : List (List ℕ)) → eqb b 10 ≡ false → LinesAre bs ls → LinesAre (b ∷ bs) (before b ls)
 one_before b bs ls e none = last b [] (e, tt)

@@ -1,5 +1,6 @@
 -- The lines of a text: each ends with a line feed, which only the last one may lack.
 use Rattle.std.specs.Prelude.{◌≡◌, ℕ, false, cond, List, [], ◌∷◌, ◌++◌, ◌==◌}
+use Rattle.words.specs.Cuts.{before}
 
 abbrev pub NoFeed : List ℕ → Type 0
 NoFeed [] = Unit {0}
@@ -14,11 +15,6 @@ pub data LinesAre : List ℕ → List (List ℕ) → Type 0 where
   none : LinesAre [] []
   last : (b : ℕ) (bs : List ℕ) → NoFeed (b ∷ bs) → LinesAre (b ∷ bs) ((b ∷ bs) ∷ [])
   more : (l rest : List ℕ) (ls : List (List ℕ)) → NoFeed l → LinesAre rest ls → LinesAre (l ++ (10 ∷ rest)) (l ∷ ls)
-
--- a byte in front of the first line
-abbrev pub before : ℕ → List (List ℕ) → List (List ℕ)
-before b [] = (b ∷ []) ∷ []
-before b (l ∷ ls) = (b ∷ l) ∷ ls
 
 abbrev pub lines_of : List ℕ → List (List ℕ)
 lines_of [] = []

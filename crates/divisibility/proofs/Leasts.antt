@@ -1,7 +1,8 @@
 -- The least number that passes a test.
 use Rattle.std.proofs.Common.{◌≡◌, ℕ, zero, suc, ◌<◌, Bool, true, false, cond, Some, None, Option, sym, refl, ap, subst, arith}
 use native.Mathlib.Decide.{dec_lt}
-use Rattle.divisibility.specs.Leasts.{or_else, least, Below}
+use Rattle.divisibility.specs.Leasts.{least, Below}
+use Rattle.std.specs.Option.{option_or}
 
 pub least_none : (n : ℕ) (p : ℕ → Bool) → ((t : ℕ) → t < n → p t ≡ false) → least n p ≡ None
 unfolding least
@@ -42,7 +43,7 @@ least_says (suc n) p = by (least n p) (least_says n p) (p n) refl
     last : (t : ℕ) → t < suc n → (t < n → p t ≡ false) → p n ≡ false → p t ≡ false
     last t l f e = elim (dec_lt t n) [ yes q ↦ f q | no q ↦ (let z : n ≡ t = omega arith in subst (λ (s : ℕ). p s ≡ false) z e) ]
 
-    by : (o : Option ℕ) → Says n p o → (b : Bool) → p n ≡ b → Says (suc n) p (or_else o (cond b (Some n) None))
+    by : (o : Option ℕ) → Says n p o → (b : Bool) → p n ≡ b → Says (suc n) p (option_or o (cond b (Some n) None))
     by None s true e = record { below = omega arith; passes = e }
     by None s false e = λ t l. last t l (s t) e
     by (Some t) s b e = record { below = let q = s.below in omega arith; passes = s.passes }

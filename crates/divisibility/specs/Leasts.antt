@@ -1,14 +1,11 @@
 -- The least number that passes a test.
 use Rattle.std.specs.Prelude.{ℕ, zero, suc, ◌<◌, Bool, cond, Some, None, Option}
-
-abbrev pub or_else : Option ℕ → Option ℕ → Option ℕ
-or_else None o = o
-or_else (Some t) o = Some t
+use Rattle.std.specs.Option.{option_or}
 
 -- the least number below n that passes a test
 unfoldable pub least : ℕ → (ℕ → Bool) → Option ℕ
 least zero p = None
-least (suc n) p = or_else (least n p) (cond (p n) (Some n) None)
+least (suc n) p = option_or (least n p) (cond (p n) (Some n) None)
 
 -- what was found lies below n
 abbrev pub Below : ℕ → Option ℕ → Type 0

@@ -7,11 +7,12 @@ use Rattle.model.specs.declared.block.Role.{Role}
 use Rattle.model.specs.declared.block.Role.TheVariants.{Opens, Ends, Neither}
 use Rattle.model.specs.declared.block.Block.{Block}
 use Rattle.model.specs.declared.line.Line.{Line}
-use Rattle.model.specs.Blocks.{role_of, ends, line_from, end_line, opened_at, or_else, block_from, block_of}
+use Rattle.model.specs.Blocks.{role_of, ends, line_from, end_line, opened_at, block_from, block_of}
 use Rattle.model.specs.Programs.{Stands, opening, Once, Closed}
 use Rattle.model.proofs.Standing.{stands_later, stands_earlier, once_rest}
 use Rattle.model.proofs.Nesting.{ender}
 use Rattle.model.proofs.Ends.{ends_once}
+use Rattle.std.specs.Option.{option_or}
 
 abbrev made : BlockKind → ℕ → Condition → ℕ → Option ℕ → Block
 made k l c n e = record { kind = k; label = l; condition = c; first = n; end = e }
@@ -32,10 +33,10 @@ here l n e k c = ap (λ (t : Bool). cond t (Some (made k l c n e)) None) (eq-eqb
 found_from : (xs : List Line) (n i l : ℕ) (e : Option ℕ) (x : Line) (k : BlockKind) (c : Condition) → Once xs → Stands xs i x → role_of x ≡ Opens k l c → block_from l n e xs ≡ Some (made k l c (n + i) e)
 found_from [] n i l e x k c o st r = absurd (let h = st.inner in omega arith)
 found_from (y ∷ ys) n zero l e x k c o st r =
-    ap (λ (b : Role). or_else (opened_at l n e b) (block_from l (n + 1) e ys)) (ap role_of st.is ∙ r) ∙ (ap (λ (b : Option Block). or_else b (block_from l (n + 1) e ys)) (here l n e k c) ∙ ap (λ (m : ℕ). Some (made k l c m e)) (omega arith))
+    ap (λ (b : Role). option_or (opened_at l n e b) (block_from l (n + 1) e ys)) (ap role_of st.is ∙ r) ∙ (ap (λ (b : Option Block). option_or b (block_from l (n + 1) e ys)) (here l n e k c) ∙ ap (λ (m : ℕ). Some (made k l c m e)) (omega arith))
 found_from (y ∷ ys) n (suc i) l e x k c o st r =
     let other = λ (q : opening (role_of y) ≡ Some l). let z = o 0 (suc i) l y x (record { inner = omega arith; is = refl }) st q (ap opening r) in absurd {A = ⊥} (omega arith) in
-    ap (λ (b : Option Block). or_else b (block_from l (n + 1) e ys)) (other_by l n e (role_of y) other)
+    ap (λ (b : Option Block). option_or b (block_from l (n + 1) e ys)) (other_by l n e (role_of y) other)
     ∙ (found_from ys (n + 1) i l e x k c (once_rest y ys o) (stands_earlier st) r ∙ ap (λ (m : ℕ). Some (made k l c m e)) (omega arith))
 
 pub block_found : (xs : List Line) (i l : ℕ) (x : Line) (k : BlockKind) (c : Condition) → Once xs → Stands xs i x → role_of x ≡ Opens k l c → block_of xs l ≡ Some (made k l c (suc i) (end_line xs l))

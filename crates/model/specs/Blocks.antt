@@ -8,6 +8,7 @@ use Rattle.model.specs.declared.block.BlockKind.TheVariants.{While as WhileBlock
 use Rattle.model.specs.declared.block.Role.{Role}
 use Rattle.model.specs.declared.block.Role.TheVariants.{Opens, Ends, Neither}
 use Rattle.model.specs.declared.block.Block.{Block}
+use Rattle.std.specs.Option.{option_or}
 
 -- WHILE and IF open a block, ENDWHILE and ENDIF end one of their kind
 abbrev pub role_of : Line → Role
@@ -87,13 +88,9 @@ opened_at l n e (Opens k m c) = cond (m == l) (Some (record { kind = k; label = 
 opened_at l n e (Ends k m) = None
 opened_at l n e Neither = None
 
-abbrev pub or_else : Option Block → Option Block → Option Block
-or_else (Some b) o = Some b
-or_else None o = o
-
 abbrev pub block_from : ℕ → ℕ → Option ℕ → List Line → Option Block
 block_from l n e [] = None
-block_from l n e (x ∷ xs) = or_else (opened_at l n e (role_of x)) (block_from l (n + 1) e xs)
+block_from l n e (x ∷ xs) = option_or (opened_at l n e (role_of x)) (block_from l (n + 1) e xs)
 
 -- the block that has the label: kind, condition and number of the line that opens it, and the line that ends it
 abbrev pub block_of : List Line → ℕ → Option Block
