@@ -3,7 +3,9 @@ ghost use Rattle.std.specs.Prelude.{◌≡◌};
 ghost use Rattle.model.specs.Programs.{Closed};
 ghost use Rattle.model.specs.Whole.{TheEnding};
 ghost use Rattle.program.specs.Held.{held};
-ghost use Rattle.runner.specs.Drying.{start, outlook, Tried};
+ghost use Rattle.runner.specs.Drying.{start, outlook, ending_at, dried, Tried};
+ghost use Rattle.runner.specs.Plain.{run_at};
+ghost use Rattle.runner.specs.Steps.{step_of};
 
 use crate::run::{Run, Stepped};
 use model::ending::{Cause, Ending, Failure};
@@ -14,7 +16,9 @@ use travel::travel::Travel;
 
 // One step, and what it comes to if the run does not go on.
 fn try_step<T: Travel>(run: &mut Run, program: &Program, travel: &T) -> Option<Ending>
-    ensures { Closed (held program.now) → Tried (held program.now) (T.sides travel.now) run.old result run.new }
+    ensures is { result ≡ ending_at (held program.now) (T.sides travel.now) run.old }
+    ensures leads { run.new ≡ (step_of (held program.now) run.old).run }
+    ensures plain { Closed (held program.now) → Tried (held program.now) (T.sides travel.now) run.old result run.new }
 {
     let line = run.line_number(program);
     match run.step(program) {
@@ -41,15 +45,16 @@ fn outlook(run: &Run, program: &Program) -> Ending
     }
 }
 
-// What at most so many steps from home come to, in a closed program; a type for closed programs would ask more of callers. The loop
-// counts steps, of which its invariant speaks.
+// What at most so many steps from home come to; in a closed program it is what the plain run comes to. A type for closed programs would
+// ask more of callers. The loop counts steps, of which its invariant speaks.
 pub fn dry<T: Travel>(
     program: &Program,
     travel: &T,
     values: [i32; PARAMETERS],
     steps: u32,
 ) -> Ending
-    ensures { Closed (held program.now) → TheEnding (held program.now) (T.sides travel.now) steps 0 (start (T.origin travel.now) values) result }
+    ensures is { result ≡ dried (held program.now) (T.sides travel.now) steps (run_at 0 (start (T.origin travel.now) values)) }
+    ensures plain { Closed (held program.now) → TheEnding (held program.now) (T.sides travel.now) steps 0 (start (T.origin travel.now) values) result }
 {
     let mut run = Run::begin(travel.home(), values);
     for k in 0..steps {
