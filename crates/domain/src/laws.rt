@@ -9,10 +9,8 @@ use crate::domain::Domain;
 
 // Nothing to compute: its contract is that a product keeps each law that its sides keep, however many registers there are.
 #[tactic(auto, using(crate::specs::PairLaws::pair_lawful, crate::specs::PairNothing::pair_strict, crate::specs::PairTracks::pair_tracking))]
-pub fn product_laws_hold<A: Domain, B: Domain>() -> bool
+pub fn product_laws_hold<A: Domain, B: Domain>()
     ensures lawful { (n : ℕ) → Lawful n A.Domain.lattice → Lawful n B.Domain.lattice → Lawful n (pair A.Domain.lattice B.Domain.lattice n) }
     ensures strict { (n : ℕ) → Strict n A.Domain.lattice → Strict n B.Domain.lattice → Strict n (pair A.Domain.lattice B.Domain.lattice n) }
     ensures tracking { (n : ℕ) → Lawful n A.Domain.lattice → Lawful n B.Domain.lattice → Tracking n A.Domain.lattice A.Domain.tracks → Tracking n (pair A.Domain.lattice B.Domain.lattice n) (PairTracks A.Domain.lattice B.Domain.lattice A.Domain.tracks) }
-{
-    true
-}
+{}

@@ -14,7 +14,7 @@ use Rattle.model.proofs.Nesting.{ender}
 use Rattle.model.proofs.Ends.{ends_once}
 use Rattle.std.specs.Option.{option_or}
 
-abbrev made : BlockKind → ℕ → Condition → ℕ → Option ℕ → Block
+abbrev pub made : BlockKind → ℕ → Condition → ℕ → Option ℕ → Block
 made k l c n e = record { kind = k; label = l; condition = c; first = n; end = e }
 
 -- ---- the line that opens the block

@@ -75,7 +75,7 @@ module _ (lines : List Line) (closed : Closed lines) where
 
 -- ---- one step
 -- of one value, all are fine where it is
-abbrev all_fine_one : Bool → Bool
+abbrev pub all_fine_one : Bool → Bool
 all_fine_one t = t && true
 
 module _ (lines : List Line) (i : ℕ) (e : Env) where

@@ -25,7 +25,7 @@ use Rattle.number_sets.specs.Exact.{ExactSets}
 use Rattle.pointwise.specs.States.{State, of, term, value, changed, put, narrow, keep, kept_sides}
 use Rattle.pointwise.specs.States.{set as set-state, join, sure, shows, range_of, pointwise}
 use Rattle.pointwise.specs.Tracks.{follows, tracks}
-use Rattle.pointwise.specs.StateLaws.{axis_named, axis_at, term_lies}
+use Rattle.pointwise.specs.StateLaws.{axis_named, axis_at, axis_lies, term_lies}
 use Rattle.pointwise.specs.StateTracks.{kept_follows, put_follows, set_follows, term_single, value_single, sharp, sharp_follows}
 
 module _ {V : Type 0} (a : NumberSets V) (p : LawfulSets a) (x : ExactSets a) (n : ℕ) (enough : named ≤ n) where
@@ -109,14 +109,11 @@ module _ {V : Type 0} (a : NumberSets V) (p : LawfulSets a) (x : ExactSets a) (n
   axis_single : (v : Axis) (xs : List V) (e : Env) → follows a n (opt.Some xs) (opt.Some e) → of a xs (axis_register v) ≡ a.single (along v (position e))
   axis_single v xs e m = let i = axis_named v in m (axis_register v) (omega arith) ∙ ap a.single (axis_at v e)
 
-  axis_lies : (v : Axis) (e : Env) → LegalOf n e → Lies (along v (position e)) full
-  axis_lies v e l = subst (λ (u : ℤ). Lies u full) (axis_at v e) (l.fits (axis_register v))
-
   shows_value : (s : State V) (d : Side) (e : Env) → LegalOf n e → follows a n s (opt.Some e) → shows a n s d ≡ kept (position e) d
   shows_value opt.None d e l m = absurd m
   shows_value (opt.Some xs) d e l m =
       ap₂ (λ (v w : V). a.bounds d.a v d.b w d.c) (axis_single d.v xs e m) (axis_single d.w xs e m) ∙
-      x.bounds_single d.a d.b (along d.v (position e)) (along d.w (position e)) d.c (axis_lies d.v e l) (axis_lies d.w e l)
+      x.bounds_single d.a d.b (along d.v (position e)) (along d.w (position e)) d.c (axis_lies a p n enough d.v e l) (axis_lies a p n enough d.w e l)
 
   shows_none : (s : State V) (d : Side) → follows a n s opt.None → shows a n s d ≡ true
   shows_none opt.None d m = refl

@@ -163,7 +163,7 @@ module _ {V : Type 0} (a : NumberSets V) (p : LawfulSets a) (n : ℕ) (enough : 
   axis_has : (v : Axis) (xs : List V) (e : Env) → means a n (opt.Some xs) e → a.has (of a xs (axis_register v)) (along v (position e))
   axis_has v xs e m = let i = axis_named v in subst (λ (u : ℤ). a.has (of a xs (axis_register v)) u) (axis_at v e) (m (axis_register v) (omega arith))
 
-  axis_lies : (v : Axis) (e : Env) → LegalOf n e → Lies (along v (position e)) full
+  pub axis_lies : (v : Axis) (e : Env) → LegalOf n e → Lies (along v (position e)) full
   axis_lies v e l = subst (λ (u : ℤ). Lies u full) (axis_at v e) (l.fits (axis_register v))
 
   shows_holds : (s : State V) (d : Side) (e : Env) → LegalOf n e → shows a n s d ≡ true → means a n s e → Holds (position e) d

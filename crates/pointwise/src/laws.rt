@@ -10,10 +10,8 @@ ghost use Rattle.pointwise.specs.Tracks.{tracks};
 use number_sets::sets::NumberSet;
 
 // Nothing to compute: its contract is that the laws hold, whatever the kind of set and however many registers.
-pub fn laws_hold<V: NumberSet>() -> bool
+pub fn laws_hold<V: NumberSet>()
     ensures lawful { (n : ℕ) → named ≤ n → Lawful n (pointwise V.NumberSet.sets n) }
     ensures strict { (n : ℕ) → Strict n (pointwise V.NumberSet.sets n) }
     ensures tracking { (n : ℕ) → named ≤ n → Tracking n (pointwise V.NumberSet.sets n) (tracks V.NumberSet.sets n) }
-{
-    true
-}
+{}

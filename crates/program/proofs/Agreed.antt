@@ -9,10 +9,11 @@ use Rattle.model.specs.declared.line.Line.{Line}
 use Rattle.model.specs.declared.block.BlockKind.{BlockKind}
 use Rattle.model.specs.declared.block.Role.TheVariants.{Opens, Ends, Neither}
 use Rattle.model.specs.declared.block.Block.{Block}
+use Rattle.model.proofs.Found.{made}
 use Rattle.model.specs.Blocks.{role_of, Stack, outer, labels, place_from, block_number, ends, block_of}
 use Rattle.program.specs.Agree.{no_block, label_of, topped, unended, Each, Agrees, Last}
 use Rattle.program.proofs.Places.{missing_both, missing_from, missing_push, missing_pushed, missing_at}
-use Rattle.program.proofs.Readings.{open_more, labels_more, line_kept, opened, with_end, block_kept, block_opened, block_ended}
+use Rattle.program.proofs.Readings.{open_more, labels_more, line_kept, with_end, block_kept, block_opened, block_ended}
 use Rattle.program.proofs.Found.{last_on_top, last_ended}
 
 pub none_yet : Agrees [] []
@@ -74,7 +75,7 @@ one_kept xs bs x e a =
     }
 
 -- a line that opens a block of a new label
-pub one_opened : (xs : List Line) (bs : List Block) (x : Line) (k : BlockKind) (l : ℕ) (c : Condition) → role_of x ≡ Opens k l c → block_number xs l ≡ None → Agrees xs bs → Agrees (xs ++ (x ∷ [])) (bs ++ (opened k l c (length xs + 1) None ∷ []))
+pub one_opened : (xs : List Line) (bs : List Block) (x : Line) (k : BlockKind) (l : ℕ) (c : Condition) → role_of x ≡ Opens k l c → block_number xs l ≡ None → Agrees xs bs → Agrees (xs ++ (x ∷ [])) (bs ++ (made k l c (length xs + 1) None ∷ []))
 one_opened xs bs x k l c e new a =
     let more : labels (xs ++ (x ∷ [])) ≡ labels xs ++ (l ∷ []) = labels_more xs x ∙ rw e in
     record {

@@ -7,13 +7,14 @@ use Rattle.model.specs.declared.line.Line.{Line}
 use Rattle.model.specs.declared.block.BlockKind.{BlockKind}
 use Rattle.model.specs.declared.block.Role.{Role}
 use Rattle.model.specs.declared.block.Role.TheVariants.{Opens, Ends, Neither}
+use Rattle.model.proofs.Found.{made}
 use Rattle.model.specs.Blocks.{role_of, open_blocks, labels, block_number}
 use Rattle.program.specs.declared.table.Program.{Program}
 use Rattle.program.specs.Refusals.{max_lines, max_blocks, role_answer, push_answer, all_taken}
 use Rattle.program.proofs.Nested.{taken_more}
 use Rattle.program.specs.Agree.{no_block, Agrees, Last}
 use Rattle.program.specs.Held.{held, held_blocks}
-use Rattle.program.proofs.Readings.{opened, with_end}
+use Rattle.program.proofs.Readings.{with_end}
 use Rattle.program.proofs.Agreed.{is_none, one_kept, one_opened, one_ended}
 use Rattle.program.proofs.Lookup.{block_total}
 
@@ -28,7 +29,7 @@ module _ (p : Program) (x : Line) where
   pub keeps : role_of x ≡ Neither → ∥ Agrees (held p ++ (x ∷ [])) (held_blocks p) ∥₁
   keeps e = ∥∥₁_map p.agrees (one_kept (held p) (held_blocks p) x e)
 
-  pub opens : (k : BlockKind) (l : ℕ) (c : Condition) (r : Option ℕ) → role_of x ≡ Opens k l c → r ≡ block_number (held p) l → is_some r ≡ false → ∥ Agrees (held p ++ (x ∷ [])) (held_blocks p ++ (opened k l c (length (held p) + 1) None ∷ [])) ∥₁
+  pub opens : (k : BlockKind) (l : ℕ) (c : Condition) (r : Option ℕ) → role_of x ≡ Opens k l c → r ≡ block_number (held p) l → is_some r ≡ false → ∥ Agrees (held p ++ (x ∷ [])) (held_blocks p ++ (made k l c (length (held p) + 1) None ∷ [])) ∥₁
   opens k l c r e q none = ∥∥₁_map p.agrees (one_opened (held p) (held_blocks p) x k l c e (sym q ∙ is_none r none))
 
   pub closes : (k : BlockKind) (l i : ℕ) → role_of x ≡ Ends k l → (get_or (held_blocks p) i no_block).label ≡ l → Last (held_blocks p) (Some i) → ∥ Agrees (held p ++ (x ∷ [])) (set (held_blocks p) i (with_end (Some (length (held p) + 1)) (get_or (held_blocks p) i no_block))) ∥₁

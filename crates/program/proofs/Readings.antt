@@ -8,6 +8,7 @@ use Rattle.model.specs.declared.block.BlockKind.{BlockKind}
 use Rattle.model.specs.declared.block.Role.{Role}
 use Rattle.model.specs.declared.block.Role.TheVariants.{Opens, Ends, Neither}
 use Rattle.model.specs.declared.block.Block.{Block}
+use Rattle.model.proofs.Found.{made}
 use Rattle.model.specs.Blocks.{role_of, Stack, past, open_after, label_before, labels, place_from, block_number, line_from, ends, end_line, opened_at, block_from, block_of}
 use Rattle.program.proofs.Places.{missing_both}
 use Rattle.std.specs.Option.{option_or}
@@ -66,11 +67,8 @@ no_block_from l k n e (x ∷ xs) h = by_role (role_of x) h (λ j. no_block_from 
     by_role (Ends a m) h more = more k h
     by_role Neither h more = more k h
 
-abbrev pub opened : BlockKind → ℕ → Condition → ℕ → Option ℕ → Block
-opened k l c n e = record { kind = k; label = l; condition = c; first = n; end = e }
-
 abbrev pub with_end : Option ℕ → Block → Block
-with_end e b = opened b.kind b.label b.condition b.first e
+with_end e b = made b.kind b.label b.condition b.first e
 
 -- which line ends a block matters to its end alone
 end_given : (l n : ℕ) (e f : Option ℕ) (xs : List Line) → block_from l n f xs ≡ option_map (with_end f) (block_from l n e xs)
@@ -78,7 +76,7 @@ end_given l n e f [] = refl
 end_given l n e f (x ∷ xs) =
     ap (option_or (opened_at l n f (role_of x))) (end_given l (n + 1) e f xs) ∙ by_role (role_of x)
   where
-    by_test : (k : BlockKind) (m : ℕ) (c : Condition) (t : Bool) (o : Option Block) → option_or (cond t (Some (opened k m c n f)) None) (option_map (with_end f) o) ≡ option_map (with_end f) (option_or (cond t (Some (opened k m c n e)) None) o)
+    by_test : (k : BlockKind) (m : ℕ) (c : Condition) (t : Bool) (o : Option Block) → option_or (cond t (Some (made k m c n f)) None) (option_map (with_end f) o) ≡ option_map (with_end f) (option_or (cond t (Some (made k m c n e)) None) o)
     by_test k m c true o = refl
     by_test k m c false o = refl
 
@@ -103,14 +101,14 @@ block_kept xs x l b miss h =
     ∙ ap (λ o. option_or o (opened_at l (1 + length xs) (end_line xs l) (role_of x))) h
 
 -- which opens it
-pub block_opened : (xs : List Line) (x : Line) (k : BlockKind) (l : ℕ) (c : Condition) → role_of x ≡ Opens k l c → block_number xs l ≡ None → end_line xs l ≡ None → block_of (xs ++ (x ∷ [])) l ≡ Some (opened k l c (length xs + 1) None)
+pub block_opened : (xs : List Line) (x : Line) (k : BlockKind) (l : ℕ) (c : Condition) → role_of x ≡ Opens k l c → block_number xs l ≡ None → end_line xs l ≡ None → block_of (xs ++ (x ∷ [])) l ≡ Some (made k l c (length xs + 1) None)
 block_opened xs x k l c r new none =
     let same : eqb l l ≡ true = eq-eqb l l refl in
     ap (λ e. block_from l 1 e (xs ++ (x ∷ []))) (line_kept (ends l) 1 xs x (rw r) ∙ none)
     ∙ block_more l 1 None xs x
     ∙ ap (λ o. option_or o (opened_at l (1 + length xs) None (role_of x))) (no_block_from l 0 1 None xs new)
     ∙ ap (opened_at l (1 + length xs) None) r
-    ∙ rw same (ap (λ n. Some (opened k l c n None)) (omega arith))
+    ∙ rw same (ap (λ n. Some (made k l c n None)) (omega arith))
 
 -- which ends it
 pub block_ended : (xs : List Line) (x : Line) (l : ℕ) (b : Block) → ends l (role_of x) ≡ true → b.end ≡ None → block_of xs l ≡ Some b → block_of (xs ++ (x ∷ [])) l ≡ Some (with_end (Some (length xs + 1)) b)

@@ -17,6 +17,7 @@ use Rattle.model.specs.Blocks.{Stack}
 use Rattle.model.specs.Runs.{put, passes, sets, moves, stops}
 use Rattle.model.specs.Whole.{here, Dry, ended}
 use Rattle.model.proofs.Closing.{closing}
+use Rattle.model.proofs.Stepping.{all_fine_one}
 use Rattle.model.proofs.Parameters.{register_inner}
 use Rattle.domain.specs.Lattice.{Lattice}
 use Rattle.domain.specs.Tracking.{Tracking}
@@ -33,10 +34,6 @@ cause_inside t c h = ap (λ (b : Bool). cond b c (Some Arithmetic)) h
 
 cause_unsure : (t : Bool) (c : Option Cause) → t ≡ false → cond t c (Some Arithmetic) ≡ Some Arithmetic
 cause_unsure t c h = ap (λ (b : Bool). cond b c (Some Arithmetic)) h
-
--- a value by itself
-abbrev alone : Bool → Bool
-alone t = t && true
 
 module _ {S : Type 0} (l : Lattice S) (tracks : S → Option Env → Type 0) (q : Tracking registers l tracks) (lines : List Line) (sides : List Side) where
   abbrev pub step : Sweep S → Line → Sweep S
@@ -81,7 +78,7 @@ module _ {S : Type 0} (l : Lattice S) (tracks : S → Option Env → Type 0) (q 
     set_by : (os : Stack) (i : ℕ) (w : Sweep S) (e : Env) (k : ℕ) → LegalOf registers e → Part lines os (setting ∷ xs) i → Way l tracks lines live e os i w → suc (length xs) ≤ k →
         (t : Bool) → fine e v ≡ t → EndsAs k i e xs (step w setting)
     set_by os i w e k legal part way fuel true f =
-        let sure = sure_is_fine l tracks q w.flow.current (Some v ∷ []) e (part.written.0, tt) legal way.current ∙ ap alone f in
+        let sure = sure_is_fine l tracks q w.flow.current (Some v ∷ []) e (part.written.0, tt) legal way.current ∙ ap all_fine_one f in
         went lines sides k i (suc i) e _ _ (omega arith) (sets (first_stands lines os setting xs i part) f)
         (λ n z. go live os (suc i) (step w setting) _ n (legal_set registers e (register p) (result e v) legal (register_inner p) f)
         (next_part lines os setting xs i part.nested.1 part)
@@ -94,9 +91,9 @@ module _ {S : Type 0} (l : Lattice S) (tracks : S → Option Env → Type 0) (q 
         })
         (omega arith))
     set_by os i w e k legal part way fuel false f =
-        let sure = sure_is_fine l tracks q w.flow.current (Some v ∷ []) e (part.written.0, tt) legal way.current ∙ ap alone f in
+        let sure = sure_is_fine l tracks q w.flow.current (Some v ∷ []) e (part.written.0, tt) legal way.current ∙ ap all_fine_one f in
         stopped k i e xs (step w setting) Arithmetic (some_failing _ w.line i _ Arithmetic way.clear way.line (cause_unsure _ None sure))
-        (went_wrong lines sides k i e (omega arith) (stops (first_stands lines os setting xs i part) (ap alone f)))
+        (went_wrong lines sides k i e (omega arith) (stops (first_stands lines os setting xs i part) (ap all_fine_one f)))
 
     pub past_setting : Goal l tracks lines sides (setting ∷ xs)
     past_setting live os i w e k legal part way fuel = set_by os i w e k legal part way (omega arith) _ refl
