@@ -34,7 +34,11 @@ pub(crate) fn condition_of(program: &Program, label: u16) -> Condition
 pub(crate) fn stored<D: Domain>(store: &[D], place: usize) -> D
     ensures { result ≡ slice_index_or store.now place D.lattice.none }
 {
-    store.get(place).copied().unwrap_or(D::none())
+    // Not `unwrap_or`, which would make a state of none each time.
+    match store.get(place) {
+        Some(state) => *state,
+        None => D::none(),
+    }
 }
 
 pub(crate) fn put<D: Domain>(store: &mut [D], place: usize, state: D)

@@ -180,6 +180,7 @@ impl Run {
     }
 
     // What a step does and answers goes by where the run is and by the line there together.
+    #[inline(always)]
     fn advance(&mut self, program: &Program) -> Stepped
         ensures { gone self.new result ≡ step_of (held program.now) self.old }
     {
@@ -213,7 +214,8 @@ impl Run {
         }
     }
 
-    // One step over the line under the run; in a closed program it is that of the plain run.
+    // One step over the line under the run; in a closed program it is that of the plain run. Inlined, so that the answer is made where it is read.
+    #[inline(always)]
     pub fn step(&mut self, program: &Program) -> Stepped
         ensures is { gone self.new result ≡ step_of (held program.now) self.old }
         ensures plain { Closed (held program.now) → PlainStep (held program.now) self.old result self.new }

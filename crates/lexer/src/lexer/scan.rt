@@ -1,9 +1,9 @@
 // The lexer: tokens that borrow their part of the line's text.
-ghost use Rattle.std.specs.Prelude.{◌≡◌, ◌<◌, ◌≤◌, length, slice_index};
+ghost use Rattle.std.specs.Prelude.{◌≡◌, length};
 ghost use Rattle.lexer.specs.Lexemes.{Heads};
-ghost use Rattle.lexer.specs.Parts.{size, Cut, Next};
+ghost use Rattle.lexer.specs.Parts.{Cut, Next};
 
-use crate::class::{Class, blanks, digits, letters};
+use crate::class::{blanks, digits, letters};
 use crate::lexer::Lexer;
 use crate::token::Token;
 
@@ -38,29 +38,21 @@ impl<'a> Lexer<'a> {
     }
 }
 
-// The first token of s, and what is left of s.
+// The first token of s, and what is left of s; runs stand first, since most tokens are runs.
 fn cut<'a>(s: &'a [u8]) -> Option<(&'a [u8], &'a [u8])>
     ensures { Cut s.entry result }
 {
     match s {
         [] => None,
-        [b'#' | b'[' | b']' | b'+' | b'-' | b'*' | b'=', rest @ ..] => Some((&s[..1], rest)),
-        [first, ..] => {
-            let n = first_len(s, *first);
+        [b, ..] if b.is_ascii_digit() => {
+            let n = digits(s);
             Some((&s[..n], &s[n..]))
         }
-    }
-}
-
-// How long the first token is.
-fn first_len(s: &[u8], first: u8) -> usize
-    requires { (0 < length s.now) × (first ≡ slice_index s.now 0) }
-    ensures is { result ≡ size s.now }
-    ensures within { result ≤ length s.now }
-{
-    match Class::from(first) {
-        Class::Letter => letters(s),
-        Class::Digit => digits(s),
-        Class::Blank | Class::Mark => 1,
+        [b, ..] if b.is_ascii_alphabetic() => {
+            let n = letters(s);
+            Some((&s[..n], &s[n..]))
+        }
+        [b'#' | b'[' | b']' | b'+' | b'-' | b'*' | b'=', rest @ ..] => Some((&s[..1], rest)),
+        [_, rest @ ..] => Some((&s[..1], rest)),
     }
 }
