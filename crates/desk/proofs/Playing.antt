@@ -9,13 +9,18 @@ use Rattle.desk.specs.declared.answer.Reply.{Reply}
 use Rattle.desk.specs.declared.answer.Reply.TheVariants.{Done}
 use Rattle.desk.specs.declared.entry.Answer.{Answer}
 use Rattle.desk.specs.declared.entry.Entry.{Entry}
-use Rattle.desk.specs.declared.entry.Entry.TheVariants.{Note as ANote}
-use Rattle.desk.specs.Scripts.{Table, events_of}
+use Rattle.desk.specs.declared.entry.Entry.TheVariants.{Call as ACall, Table as ATable, Note as ANote}
+use Rattle.desk.specs.Scripts.{Table, Stays, events_of}
 use Rattle.desk.specs.Stretches.{asked, paired, events_in, region_of, sides_of, home_of, Finished}
 
 -- each entry stays as it was
-all_stay : (n : ℕ) (cs ds : List Entry) (qs rs : List Reply) → length ds ≡ length cs → n ≡ length cs → EachStays (λ (c d : Entry) (r : Reply). d ≡ c) n cs ds qs rs → ds ≡ cs
-all_stay n cs ds qs rs e m s = ext_get_or (ANote (Bad 0)) ds cs e (λ i h. s.played i (ANote (Bad 0)) Done (omega (arith, e, m, h)))
+stays_same : (c d : Entry) (a : Reply) → Stays c d a → d ≡ c
+stays_same (ACall c) d a s = s
+stays_same (ATable t) d a s = s.0
+stays_same (ANote n) d a s = s.0
+
+all_stay : (n : ℕ) (cs ds : List Entry) (qs rs : List Reply) → length ds ≡ length cs → n ≡ length cs → EachStays Stays n cs ds qs rs → ds ≡ cs
+all_stay n cs ds qs rs e m s = ext_get_or (ANote (Bad 0)) ds cs e (λ i h. stays_same _ _ _ (s.played i (ANote (Bad 0)) Done (omega (arith, e, m, h))))
 
 -- what a tape records
 recorded_entries : (cs ds : List Entry) (rs : List Reply) → length ds ≡ length cs → length rs ≡ length cs → recorded (λ (c d : Entry) (r : Reply). events_of c r) cs ds rs ≡ events_in (paired cs rs)
@@ -35,7 +40,7 @@ if_ok (Ok a) f p = f p
 if_ok (Err e) f p = tt
 
 module _ (t : Table) (cs ds : List Entry) (qs rs : List Reply) (old new : List Answer) (all : length ds ≡ length cs) (room : length qs ≡ length cs) (told : length rs ≡ length qs) where
-  pub finished : EachStays (λ (c d : Entry) (r : Reply). d ≡ c) (min (length cs) (length qs)) cs ds qs rs
+  pub finished : EachStays Stays (min (length cs) (length qs)) cs ds qs rs
       → Lawfully (region_of t) (sides_of t) (home_of t) [] (recorded (λ (c d : Entry) (r : Reply). events_of c r) cs ds rs)
       → new ≡ old ++ paired ds rs → Finished t cs old new
   finished stays law noted =
