@@ -20,6 +20,8 @@ impl Congruence {
     pub fn bounded(self, a: Sign, b: Factor, other: Congruence, c: i32) -> bool
         ensures { result ≡ bounded_by a self b other c }
     {
-        self.modulus == 0 && other.settles(b) && sum_at_most(a, self.residue, b, other.residue, c)
+        self.modulus == 0
+            && other.settles(b)
+            && sum_at_most(a, self.narrow_residue(), b, other.narrow_residue(), c)
     }
 }

@@ -30,7 +30,7 @@ impl Congruence {
     {
         settled(
             self.modulus_of(op, other),
-            op.apply(self.residue, other.residue),
+            op.apply(self.narrow_residue(), other.narrow_residue()),
         )
     }
 
@@ -38,6 +38,8 @@ impl Congruence {
     pub fn result_fits(self, op: Op, other: Congruence) -> bool
         ensures { result ≡ fits op self other }
     {
-        self.modulus == 0 && other.modulus == 0 && fits(op.apply(self.residue, other.residue))
+        self.modulus == 0
+            && other.modulus == 0
+            && fits(op.apply(self.narrow_residue(), other.narrow_residue()))
     }
 }

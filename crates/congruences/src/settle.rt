@@ -58,3 +58,12 @@ pub fn settled(m: u64, r: i64) -> Option<Congruence>
         folded(m, remainder(r, m))
     }
 }
+
+impl Congruence {
+    // The residue in 32 bits, as operators and sides take numbers: it lies within twice the limit.
+    pub(crate) fn narrow_residue(self) -> i32
+        ensures { result ≡ self.residue }
+    {
+        self.residue as i32
+    }
+}

@@ -6,3 +6,4 @@ pub mod PairLaws
 pub mod Environments
 pub mod PairNothing
 pub mod PairTracks
+pub mod Leading

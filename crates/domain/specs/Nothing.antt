@@ -3,12 +3,12 @@ use Rattle.std.specs.Prelude.{◌≡◌, ℕ, ◌<◌, true}
 use Rattle.model.specs.declared.range.Range.{Range}
 use Rattle.model.specs.declared.side.Side.{Side}
 use Rattle.model.specs.declared.expression.Condition.{Condition}
-use Rattle.model.specs.declared.expression.Term.{Term}
+use Rattle.model.specs.declared.expression.Operand.{Operand}
 use Rattle.model.specs.declared.expression.Expression.{Expression}
 use Rattle.model.specs.declared.expression.Expression.TheVariants.{Bare}
-use Rattle.domain.specs.Lattice.{Lattice, empty}
+use Rattle.domain.specs.Lattice.{Lattice, Meaning, empty}
 
-pub record Strict (n : ℕ) {S : Type 0} (l : Lattice S) : Type 0 where
+pub record Strict (n : ℕ) {S : Type 0} {M : Meaning S} (l : Lattice M) : Type 0 where
   -- an operation on none gives none
   pub narrow_none : (r : ℕ) (x : Range) → r < n → l.narrow l.none r x ≡ l.none
   pub keep_none : (c : Condition) → l.keep l.none c ≡ l.none
@@ -26,4 +26,4 @@ pub record Strict (n : ℕ) {S : Type 0} (l : Lattice S) : Type 0 where
   pub shows_none : (d : Side) → l.shows l.none d ≡ true
   pub range_none : (r : ℕ) (x : Range) → r < n → l.range l.none r x ≡ empty
   -- a term by itself is always sure
-  pub sure_bare : (s : S) (t : Term) → l.sure s (Bare t) ≡ true
+  pub sure_bare : (s : S) (x : Operand) → l.sure s (Bare x) ≡ true

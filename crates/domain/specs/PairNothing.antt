@@ -4,14 +4,14 @@ use Rattle.std.proofs.Math.Path.{refl, ap}
 use Rattle.std.proofs.Common.{◌∙◌, arith}
 use Rattle.std.proofs.lemmas.Bool.{and_parts, and_from, or_left}
 use Rattle.domain.specs.declared.product.Product.{Product}
-use Rattle.domain.specs.Lattice.{Lattice, empty}
+use Rattle.domain.specs.Lattice.{Lattice, Meaning, empty}
 use Rattle.domain.specs.Nothing.{Strict}
 use Rattle.domain.specs.Pairs.{pair, reduce, reduce_at}
 
 both : {A B : Type 0} (x y : Product A B) → x.first ≡ y.first → x.second ≡ y.second → x ≡ y
 both x y p q i = record { first = p i; second = q i }
 
-module _ (n : ℕ) {A B : Type 0} (a : Lattice A) (b : Lattice B) (p : Strict n a) (q : Strict n b) where
+module _ (n : ℕ) {A B : Type 0} {M : Meaning A} {N : Meaning B} (a : Lattice M) (b : Lattice N) (p : Strict n a) (q : Strict n b) where
   nothing : Product A B
   nothing = record { first = a.none; second = b.none }
 

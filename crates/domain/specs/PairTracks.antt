@@ -6,10 +6,10 @@ use Rattle.std.proofs.lemmas.Bool.{or_left}
 use Rattle.model.specs.declared.range.Range.{Range}
 use Rattle.model.specs.Environments.{Env, LegalOf, Lies, at, full}
 use Rattle.domain.specs.declared.product.Product.{Product}
-use Rattle.domain.specs.Lattice.{Lattice, Lawful, Inside, empty, single}
+use Rattle.domain.specs.Lattice.{Lattice, Meaning, Lawful, Inside, empty, single}
 use Rattle.domain.specs.Tracking.{Sharpens, begin, cut, pin, Tracking}
 use Rattle.domain.specs.Pairs.{pair, PairTracks, reduce, reduce_at, outcome}
-use Rattle.domain.specs.Environments.{legal_set}
+use Rattle.domain.specs.Environments.{legal_after}
 use Rattle.model.proofs.Numbers.{le_true}
 use Rattle.domain.specs.PairLaws.{inside_empty, outcome_holds}
 
@@ -40,14 +40,14 @@ or_same false true t e h = sym (h refl)
 or_same false false t e h = e
 
 -- what is sharpened to an environment means it
-pub sharp_means : (n : ℕ) {S : Type 0} {l : Lattice S} {e : Env} {k : ℕ} {s : S} → Lawful n l → LegalOf n e → Sharpens n l e k s → l.means s e
+pub sharp_means : (n : ℕ) {S : Type 0} {M : Meaning S} {l : Lattice M} {e : Env} {k : ℕ} {s : S} → Lawful n l → LegalOf n e → Sharpens n l e k s → M s e
 sharp_means n p w begin = p.any_all _ w
 sharp_means n p w (cut r x i h d) = p.narrow_holds _ r x _ i w (sharp_means n p w d) h
 sharp_means n p w (pin {k = k} i d) = p.narrow_holds _ k _ _ i w (sharp_means n p w d) (lies_single _)
 
-module _ (n : ℕ) {A B : Type 0} (a : Lattice A) (b : Lattice B) (p : Lawful n a) (q : Lawful n b) where
-  reduce_sharp : (j k : ℕ) (s : Product A B) (e : Env) → j ≤ n → LegalOf n e → Sharpens n a e k s.first → b.means s.second e →
-      Sharpens n a e k (reduce a b j s).first × b.means (reduce a b j s).second e
+module _ (n : ℕ) {A B : Type 0} {M : Meaning A} {N : Meaning B} (a : Lattice M) (b : Lattice N) (p : Lawful n a) (q : Lawful n b) where
+  reduce_sharp : (j k : ℕ) (s : Product A B) (e : Env) → j ≤ n → LegalOf n e → Sharpens n a e k s.first → N s.second e →
+      Sharpens n a e k (reduce a b j s).first × N (reduce a b j s).second e
   unfolding reduce reduce_at
   reduce_sharp zero k s e i w h m = (h, m)
   reduce_sharp (suc j) k s e i w h m =
@@ -55,7 +55,7 @@ module _ (n : ℕ) {A B : Type 0} (a : Lattice A) (b : Lattice B) (p : Lawful n 
       let o = outcome_holds n a b p q j (reduce a b j s) e (omega arith) w (sharp_means n p w r.0) r.1 in
       (cut j _ (omega arith) o r.0, q.narrow_holds _ j _ e (omega arith) w r.1 o)
 
-  pair_sharp : {e : Env} {k : ℕ} {s : Product A B} → LegalOf n e → Sharpens n (pair a b n) e k s → Sharpens n a e k s.first × b.means s.second e
+  pair_sharp : {e : Env} {k : ℕ} {s : Product A B} → LegalOf n e → Sharpens n (pair a b n) e k s → Sharpens n a e k s.first × N s.second e
   pair_sharp w begin = (begin, q.any_all _ w)
   pair_sharp {e = e} w (cut {k = k} r x i h d) =
       let m = pair_sharp w d in
@@ -68,12 +68,12 @@ module _ (n : ℕ) {A B : Type 0} (a : Lattice A) (b : Lattice B) (p : Lawful n 
     range_lies : (s : A) (r : ℕ) (x : Range) (e : Env) → r < n → LegalOf n e → tracks s (Some e) → Lies (at e r) x → Lies (at e r) (a.range s r x)
     range_lies s r x e i w h k = subst (λ (y : Range). Lies (at e r) y) (sym (t.range_value s r x e i w h k)) (lies_single (at e r))
 
-    outcome_lies : (r : ℕ) (s : Product A B) (e : Env) → r < n → LegalOf n e → tracks s.first (Some e) → b.means s.second e → Lies (at e r) (outcome a b r s)
+    outcome_lies : (r : ℕ) (s : Product A B) (e : Env) → r < n → LegalOf n e → tracks s.first (Some e) → N s.second e → Lies (at e r) (outcome a b r s)
     outcome_lies r s e i w h m =
         range_lies s.first r _ e i w h (q.range_holds s.second r _ e i w m (range_lies s.first r full e i w h (w.fits r)))
 
-    reduce_value : (k : ℕ) (s : Product A B) (e : Env) → k ≤ n → LegalOf n e → tracks s.first (Some e) → b.means s.second e →
-        tracks (reduce a b k s).first (Some e) × b.means (reduce a b k s).second e
+    reduce_value : (k : ℕ) (s : Product A B) (e : Env) → k ≤ n → LegalOf n e → tracks s.first (Some e) → N s.second e →
+        tracks (reduce a b k s).first (Some e) × N (reduce a b k s).second e
     unfolding reduce reduce_at
     reduce_value zero s e i w h m = (h, m)
     reduce_value (suc k) s e i w h m =
@@ -86,7 +86,7 @@ module _ (n : ℕ) {A B : Type 0} (a : Lattice A) (b : Lattice B) (p : Lawful n 
     reduce_none zero s i h = h
     reduce_none (suc k) s i h = t.narrow_none _ k _ (omega arith) (reduce_none k s (omega arith) h)
 
-    pair_range : (s : Product A B) (r : ℕ) (x : Range) (e : Env) → r < n → LegalOf n e → tracks s.first (Some e) → b.means s.second e → Lies (at e r) x →
+    pair_range : (s : Product A B) (r : ℕ) (x : Range) (e : Env) → r < n → LegalOf n e → tracks s.first (Some e) → N s.second e → Lies (at e r) x →
         b.range s.second r (a.range s.first r x) ≡ single (at e r)
     pair_range s r x e i w h m k =
         ap (b.range s.second r) (t.range_value s.first r x e i w h k) ∙
@@ -97,7 +97,7 @@ module _ (n : ℕ) {A B : Type 0} (a : Lattice A) (b : Lattice B) (p : Lawful n 
       start = λ s e w h. let m = pair_sharp w h in (t.start s.first e w m.0, m.1);
       narrow_value = λ s r x e i w h k. reduce_value n _ e (omega arith) w (t.narrow_value _ r x e i w h.0 k) (q.narrow_holds _ r x e i w h.1 k);
       narrow_none = λ s r x i h. reduce_none n _ (omega arith) (t.narrow_none _ r x i h);
-      set_value = λ s r x e i v w h k. reduce_value n _ _ (omega arith) (legal_set n e r _ w i k) (t.set_value _ r x e i v w h.0 k) (q.set_holds _ r x e i v w h.1 k);
+      set_value = λ s r x e i v w h k. reduce_value n _ _ (omega arith) (legal_after n e r x w i k) (t.set_value _ r x e i v w h.0 k) (q.set_holds _ r x e i v w h.1 k);
       set_none = λ s r x i h. reduce_none n _ (omega arith) (t.set_none _ r x i h);
       keep_holds = λ s c e v w h k. reduce_value n _ e (omega arith) w (t.keep_holds _ c e v w h.0 k) (q.keep_holds _ c e v w h.1 k);
       keep_fails = λ s c e v w h k. reduce_none n _ (omega arith) (t.keep_fails _ c e v w h.0 k);
@@ -107,7 +107,7 @@ module _ (n : ℕ) {A B : Type 0} (a : Lattice A) (b : Lattice B) (p : Lawful n 
       join_none = λ s u h k. t.join_none _ _ h k;
       sure_value = λ s x e v w h. or_same _ _ _ (t.sure_value _ x e v w h.0) (λ y. q.sure_holds _ x e v w y h.1);
       sure_none = λ s x h. or_left _ _ (t.sure_none _ x h);
-      shows_value = λ s d e w h. or_same _ _ _ (t.shows_value _ d e w h.0) (λ y. le_true _ _ (q.shows_holds _ d e w y h.1));
+      shows_value = λ s d e f w h. or_same _ _ _ (t.shows_value _ d e f w h.0) (λ y. le_true _ _ (q.shows_holds _ d e f w y h.1));
       shows_none = λ s d h. or_left _ _ (t.shows_none _ d h);
       range_value = λ s r x e i w h k. pair_range s r x e i w h.0 h.1 k;
       range_none = λ s r x i h. only_empty _ _ (q.range_inside s.second r _ i) (t.range_none s.first r x i h);

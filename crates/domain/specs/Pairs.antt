@@ -3,9 +3,13 @@ use Rattle.std.specs.Prelude.{ℕ, zero, suc, ◌+◌, ◌&&◌, ◌||◌, Some,
 use Rattle.model.specs.declared.range.Range.{Range}
 use Rattle.model.specs.Environments.{Env, full}
 use Rattle.domain.specs.declared.product.Product.{Product}
-use Rattle.domain.specs.Lattice.{Lattice}
+use Rattle.domain.specs.Lattice.{Lattice, Meaning}
 
-module _ {A B : Type 0} (a : Lattice A) (b : Lattice B) where
+-- the environments that both sides mean
+abbrev pub both_mean : {A B : Type 0} → Meaning A → Meaning B → Meaning (Product A B)
+both_mean M N p e = M p.first e × N p.second e
+
+module _ {A B : Type 0} {M : Meaning A} {N : Meaning B} (a : Lattice M) (b : Lattice N) where
   -- the full range through first, second, first
   abbrev pub outcome : ℕ → Product A B → Range
   outcome r p = a.range p.first r (b.range p.second r (a.range p.first r full))
@@ -19,9 +23,8 @@ module _ {A B : Type 0} (a : Lattice A) (b : Lattice B) where
   reduce zero p = p
   reduce (suc n) p = reduce_at n (reduce n p)
 
-  abbrev pub pair : ℕ → Lattice (Product A B)
+  abbrev pub pair : ℕ → Lattice (both_mean M N)
   pair n = record {
-    means = λ p e. a.means p.first e × b.means p.second e;
     rank = λ p. a.rank p.first + b.rank p.second;
     any = record { first = a.any; second = b.any };
     none = record { first = a.none; second = b.none };
@@ -39,4 +42,4 @@ module _ {A B : Type 0} (a : Lattice A) (b : Lattice B) where
   -- the first side follows the environment, and the second means it
   abbrev pub PairTracks : (A → Option Env → Type 0) → Product A B → Option Env → Type 0
   PairTracks tracks p None = tracks p.first None
-  PairTracks tracks p (Some e) = tracks p.first (Some e) × b.means p.second e
+  PairTracks tracks p (Some e) = tracks p.first (Some e) × N p.second e

@@ -2,11 +2,10 @@
 // handed each operation twice, once for each side's type.
 ghost use Rattle.std.specs.Prelude.{◌≡◌, ◌+◌, ◌%◌, ◌^◌, ◌&&◌};
 ghost use Rattle.model.specs.Environments.{registers};
-ghost use Rattle.domain.specs.Pairs.{pair, PairTracks, reduce, reduce_at};
+ghost use Rattle.domain.specs.Pairs.{both_mean, pair, reduce, reduce_at};
 ghost use Rattle.domain.specs.PairLaws.{pair_lawful, pair_ranked};
 ghost use Rattle.std.proofs.lemmas.Bool.{and_parts};
 ghost use Rattle.domain.specs.PairNothing.{pair_strict};
-ghost use Rattle.domain.specs.PairTracks.{pair_tracking};
 
 use crate::domain::Domain;
 use model::expression::{Condition, Expression};
@@ -16,8 +15,8 @@ use model::side::Side;
 
 #[derive(Clone, Copy)]
 pub struct Product<A, B> {
-    pub first: A,
-    pub second: B,
+    first: A,
+    second: B,
 }
 
 impl<A: Domain, B: Domain> Product<A, B> {
@@ -49,13 +48,11 @@ impl<A: Domain, B: Domain> Domain for Product<A, B> {
 
     ghost NONE_RANK = { (A.Domain.NONE_RANK + B.Domain.NONE_RANK) % 2 ^ 64 };
 
+    ghost means = { both_mean A.Domain.means B.Domain.means };
+
     ghost lattice = { pair A.Domain.lattice B.Domain.lattice registers };
 
     ghost strict = { A.Domain.strict && B.Domain.strict };
-
-    ghost exact = { A.Domain.exact };
-
-    ghost tracks = { PairTracks A.Domain.lattice B.Domain.lattice A.Domain.tracks };
 
     ghost ranked = { pair_ranked registers A.Domain.lattice B.Domain.lattice A.Domain.NONE_RANK B.Domain.NONE_RANK A.Domain.ranked B.Domain.ranked };
 
@@ -64,8 +61,6 @@ impl<A: Domain, B: Domain> Domain for Product<A, B> {
     ghost nothing = { λ h.
         let k = and_parts A.Domain.strict B.Domain.strict h in
         pair_strict registers A.Domain.lattice B.Domain.lattice (A.Domain.nothing k.0) (B.Domain.nothing k.1) };
-
-    ghost tracking = { λ h. pair_tracking registers A.Domain.lattice B.Domain.lattice A.Domain.lawful B.Domain.lawful A.Domain.tracks (A.Domain.tracking h) };
 
     fn any() -> Self {
         Product {

@@ -2,7 +2,7 @@
 use domain::domain::Domain;
 use domain::product::Product;
 use fickle::fickle::Fickle;
-use model::expression::{Condition, Expression, LIMIT, Op, Parameter, Rel, Term};
+use model::expression::{Condition, Expression, LIMIT, Op, Parameter, Rel, Term, Value};
 use model::line::Axis;
 use model::range::{EMPTY, FULL, Range};
 use model::register::Register;
@@ -73,7 +73,7 @@ fn each_side_learns_from_the_other(rt: HostRuntime) {
 fn widened_rows<D: Domain>() -> D {
     let mut state = narrowed::<D>(Parameter::P1.into(), Range { lo: 0, hi: 4 });
     state.widen(&narrowed(Parameter::P1.into(), Range { lo: 1, hi: 5 }));
-    let row = Expression::Apply(Op::Mul, FIRST, Term::Number(500));
+    let row: Expression = Value::Joined(Op::Mul, FIRST, Term::Number(500)).into();
     state.set(Axis::X.into(), &row);
     state
 }
@@ -107,7 +107,7 @@ fn a_product_is_cut_to_the_limit(rt: HostRuntime) {
 }
 
 fn is_sure<D: Domain>() -> bool {
-    let next = Expression::Apply(Op::Add, FIRST, Term::Number(1));
+    let next: Expression = Value::Joined(Op::Add, FIRST, Term::Number(1)).into();
     let below = Range {
         lo: 0,
         hi: LIMIT - 1,

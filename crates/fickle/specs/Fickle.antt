@@ -1,5 +1,5 @@
 -- A state means every environment or none; that is all it tells.
-use Rattle.std.specs.Prelude.{ℕ, Bool, true, false, cond, Option, int_le}
+use Rattle.std.specs.Prelude.{ℕ, Bool, true, false, cond, int_le}
 use Rattle.model.specs.declared.range.Range.{Range}
 use Rattle.model.specs.Environments.{Env}
 use Rattle.domain.specs.Lattice.{Lattice, empty}
@@ -56,9 +56,8 @@ within Stale Stale = true
 abbrev pub whole_or_empty : Range → Range
 whole_or_empty x = cond (int_le x.lo x.hi) x empty
 
-abbrev pub fickle : Lattice Fickle
+abbrev pub fickle : Lattice means
 fickle = record {
-  means = means;
   rank = rank;
   any = Fresh;
   none = None;
@@ -72,7 +71,3 @@ fickle = record {
   shows = λ s d. false;
   range = λ s r x. whole_or_empty x;
 }
-
--- it follows no environment
-abbrev pub never : Fickle → Option Env → Type 0
-never s o = ⊥

@@ -98,7 +98,7 @@ widen_lt Stale Stale h = yes h
 pub fickle_lawful : (n : ℕ) → Lawful n fickle
 fickle_lawful n = record {
   any_all = λ e w. tt;
-  none_empty = λ e m. m;
+  none_empty = λ e w m. m;
   narrow_holds = λ s r x e i w m h. turned_means s e m;
   keep_holds = λ s c e v w m h. m;
   set_holds = λ s r x e i v w m f. freshened_means s e _ m;
@@ -108,7 +108,7 @@ fickle_lawful n = record {
   widen_right = λ s t e w m. widen_right s t e m;
   within_holds = λ s t e w h m. within_holds s t e h m;
   sure_holds = λ s x e v w h m. not_claimed h;
-  shows_holds = λ s d e w h m. not_claimed h;
+  shows_holds = λ s d e f w h m. not_claimed h;
   range_inside = λ s r x i. range_inside x;
   range_holds = λ s r x e i w m h. range_holds _ x h;
   widen_le = widen_le;

@@ -1,7 +1,7 @@
 // It tells nothing but that there is no environment, and its answers go to and fro: narrowing a state twice by the same range
 // gives the state back, and one state is not within another of the same meaning.
 ghost use Rattle.std.specs.Prelude.{◌≡◌, false, refl};
-ghost use Rattle.fickle.specs.Fickle.{fickle, whole_or_empty, never};
+ghost use Rattle.fickle.specs.Fickle.{fickle, means, whole_or_empty};
 ghost use Rattle.model.specs.Environments.{registers};
 ghost use Rattle.fickle.specs.FickleLaws.{fickle_lawful, not_claimed};
 
@@ -30,21 +30,17 @@ impl Domain for Fickle {
 
     ghost NONE_RANK = { 2 };
 
+    ghost means = { means };
+
     ghost lattice = { fickle };
 
     ghost strict = { false };
-
-    ghost exact = { false };
-
-    ghost tracks = { never };
 
     ghost ranked = { refl };
 
     ghost lawful = { fickle_lawful registers };
 
     ghost nothing = { λ h. not_claimed h };
-
-    ghost tracking = { λ h. not_claimed h };
 
     fn any() -> Self {
         Fickle::Fresh

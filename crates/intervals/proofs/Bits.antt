@@ -1,5 +1,5 @@
 -- Ends as the code has them: they went to their 64 bits and back.
-use Rattle.std.proofs.Common.{◌≡◌, ℤ, ◌∙◌, ap₂, arith, w64, SFits, to_z, of_z}
+use Rattle.std.proofs.Common.{◌≡◌, ℤ, ◌∙◌, ap₂, arith, w32, w64, SFits, to_z, of_z}
 use Rattle.std.proofs.lemmas.Int.{ints, to_z-of_z}
 use Rattle.model.specs.Environments.{Lies, full}
 use Rattle.intervals.specs.declared.interval.Interval.{Interval}
@@ -14,9 +14,12 @@ lo_lies x = record { low = x.low; high = omega (arith, ints) }
 pub hi_lies : (x : Interval) → Lies x.hi full
 hi_lies x = record { low = omega (arith, ints); high = x.high }
 
--- a number within the limit fits, and is the same when it is back
+-- a number within the limit fits, in 32 bits as in 64, and is the same when it is back
 pub lies_fits : (n : ℤ) → Lies n full → SFits w64 n
 lies_fits n p = omega (arith, ints)
+
+pub lies_narrow : (n : ℤ) → Lies n full → SFits w32 n
+lies_narrow n p = omega (arith, ints)
 
 back_same : (n : ℤ) → Lies n full → back n ≡ n
 back_same n p = to_z-of_z w64 n (lies_fits n p)

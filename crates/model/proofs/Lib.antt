@@ -9,3 +9,4 @@ pub mod Opposites
 pub mod Labels
 pub mod Closing
 pub mod Parameters
+pub mod Registers

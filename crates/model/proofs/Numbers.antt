@@ -4,8 +4,9 @@ use Rattle.std.proofs.Math.Dec.{T_prop}
 use Rattle.std.proofs.lemmas.Int.{ints}
 use Rattle.std.proofs.lemmas.Bool.{and_parts, and_from}
 use Rattle.model.specs.declared.range.Range.{Range}
-use Rattle.model.specs.Environments.{Lies, lies}
-use Rattle.model.specs.Values.{same}
+use Rattle.model.specs.declared.expression.Expression.{Expression}
+use Rattle.model.specs.Environments.{Env, Lies, lies, fit}
+use Rattle.model.specs.Values.{same, evaluate, faultless}
 
 pub true_le : (a b : ℤ) → int_le a b ≡ true → a ≤ℤ b
 true_le a b h = record { le = rw h tt }
@@ -28,3 +29,10 @@ in_lies n x h = and_from _ _ (le_true _ _ h.low) (le_true _ _ h.high)
 -- there is one way to be no greater
 pub le_prop : (a b : ℤ) → IsProp (a ≤ℤ b)
 le_prop a b x y i = record { le = T_prop (int_le a b) x.le y.le i }
+
+-- what does not fault lies within the limit
+pub faultless_fit : (e : Env) (x : Expression) → faultless e x ≡ true → fit (evaluate e x) ≡ true
+faultless_fit e x h = h
+
+pub fit_faultless : (e : Env) (x : Expression) → fit (evaluate e x) ≡ true → faultless e x ≡ true
+fit_faultless e x h = h

@@ -40,10 +40,6 @@ Env = List ℤ
 abbrev pub at : Env → ℕ → ℤ
 at e r = slice_index_or e r (pos 0)
 
-pub record Legal (e : Env) : Type 0 where
-  pub whole : length e ≡ registers
-  pub fits : (r : ℕ) → Lies (at e r) full
-
 -- an environment of n registers
 pub record LegalOf (n : ℕ) (e : Env) : Type 0 where
   pub whole : length e ≡ n

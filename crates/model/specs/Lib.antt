@@ -2,6 +2,7 @@ pub mod Limits
 pub mod Blocks
 pub mod Axes
 pub mod Sides
+pub mod Envelopes
 pub mod Environments
 pub mod Values
 pub mod Products
@@ -11,3 +12,4 @@ pub mod Programs
 pub mod Runs
 pub mod Reached
 pub mod Whole
+pub mod Refusals

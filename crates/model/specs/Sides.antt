@@ -1,8 +1,9 @@
 -- Positions, sides, and where they hold.
-use Rattle.std.specs.Prelude.{ℕ, zero, suc, Bool, cond, List, [], ◌∷◌, ℤ, pos, ◌+ℤ◌, neg_ℤ, ◌≤ℤ◌, Some, None, Option, int_le}
+use Rattle.std.specs.Prelude.{◌≡◌, ℕ, zero, suc, ◌*◌, Bool, cond, List, [], ◌∷◌, ℤ, pos, ◌+ℤ◌, neg_ℤ, ◌≤ℤ◌, Some, None, Option, int_le}
 use Rattle.model.specs.declared.line.Axis.{Axis}
 use Rattle.model.specs.declared.line.Axis.TheVariants.{X, Y, Z, U}
 use Rattle.model.specs.Axes.{Position, along}
+use Rattle.model.specs.Limits.{limit}
 use Rattle.model.specs.declared.side.Sign.{Sign}
 use Rattle.model.specs.declared.side.Sign.TheVariants.{Plus as plus, Minus as minus}
 use Rattle.model.specs.declared.side.Factor.{Factor}
@@ -28,6 +29,12 @@ scaled Minus n = neg_ℤ n
 -- a·v + b·w
 abbrev pub weight : Position → Side → ℤ
 weight p s = signed s.a (along s.v p) +ℤ scaled s.b (along s.w p)
+
+-- a side names two different axes, and its bound is one that two coordinates can reach
+pub record Proper (s : Side) : Type 0 where
+  pub axes : s.v ≡ s.w → ⊥
+  pub low : neg_ℤ (pos (2 * limit)) ≤ℤ s.c
+  pub high : s.c ≤ℤ pos (2 * limit)
 
 -- the side holds at the position
 abbrev pub Holds : Position → Side → Type 0

@@ -1,6 +1,8 @@
-// Terms, the expressions that are evaluated, the values that lines write, and conditions.
-ghost use Rattle.std.specs.Prelude.{◌≡◌, ◌^◌, ◌≤◌, unsigned_abs};
-ghost use Rattle.model.specs.Values.{apply, compare};
+// Terms, the values that lines write, the expressions that are evaluated, and conditions.
+ghost use Rattle.std.specs.Prelude.{◌≡◌};
+ghost use Rattle.model.specs.Values.{apply, compare, expression_of, operand};
+
+use crate::register::Register;
 
 // The greatest length, in micrometres: every number of a program and every result lies from -LIMIT to LIMIT.
 pub const LIMIT: i32 = 10_000_000;
@@ -30,11 +32,11 @@ pub enum Op {
 }
 
 impl Op {
-    pub fn apply(self, a: i64, b: i64) -> i64
-        requires left { unsigned_abs a ≤ 2 ^ 31 }
-        requires right { unsigned_abs b ≤ 2 ^ 31 }
+    /// The result of the operation on two numbers, in 64 bits.
+    pub fn apply(self, a: i32, b: i32) -> i64
         ensures { result ≡ apply self a b }
     {
+        let (a, b) = (a as i64, b as i64);
         match self {
             Op::Add => a + b,
             Op::Sub => a - b,
@@ -43,17 +45,47 @@ impl Op {
     }
 }
 
-// What is evaluated in one go.
+/// What an operator joins: a number, or what a register has.
 #[derive(Clone, Copy)]
-pub enum Expression {
-    Bare(Term),
-    Apply(Op, Term, Term),
+pub enum Operand {
+    Number(i32),
+    Register(Register),
 }
 
-// What a line gives a register. It is a type of its own, since a value may come to need several expressions.
+impl From<Term> for Operand {
+    ghost from_gives = { λ term result. result ≡ operand term };
+
+    fn from(term: Term) -> Operand {
+        match term {
+            Term::Number(n) => Operand::Number(n),
+            Term::Parameter(p) => Operand::Register(p.into()),
+        }
+    }
+}
+
+/// What is evaluated in one go, and asked of a domain.
 #[derive(Clone, Copy)]
-pub struct Value {
-    pub expression: Expression,
+pub enum Expression {
+    Bare(Operand),
+    Apply(Op, Operand, Operand),
+}
+
+/// What a line writes for a register: a term, or two that an operator joins.
+#[derive(Clone, Copy)]
+pub enum Value {
+    Term(Term),
+    Joined(Op, Term, Term),
+}
+
+impl From<Value> for Expression {
+    ghost from_gives = { λ value result. result ≡ expression_of value };
+
+    fn from(value: Value) -> Expression {
+        match value {
+            Value::Term(t) => Expression::Bare(t.into()),
+            Value::Joined(op, left, right) => Expression::Apply(op, left.into(), right.into()),
+        }
+    }
 }
 
 #[derive(Clone, Copy)]

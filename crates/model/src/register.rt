@@ -1,8 +1,6 @@
 // Registers: the axes X, Y, Z, U and then the parameters #1 to #6.
-ghost use Rattle.std.specs.Prelude.{◌≡◌, ◌<◌};
+ghost use Rattle.std.specs.Prelude.{◌<◌};
 ghost use Rattle.model.specs.Environments.{registers};
-ghost use Rattle.model.specs.Sides.{axis_register};
-ghost use Rattle.model.specs.Values.{register};
 
 use crate::expression::Parameter;
 use crate::line::Axis;
@@ -21,6 +19,9 @@ pub struct Register {
 }
 
 impl From<Parameter> for Register {
+    ghost use Rattle.std.specs.Prelude.{◌≡◌};
+    ghost use Rattle.model.specs.Values.{register};
+
     ghost from_gives = { λ parameter result. result.index ≡ register parameter };
 
     fn from(parameter: Parameter) -> Register {
@@ -37,6 +38,9 @@ impl From<Parameter> for Register {
 }
 
 impl From<Axis> for Register {
+    ghost use Rattle.std.specs.Prelude.{◌≡◌};
+    ghost use Rattle.model.specs.Sides.{axis_register};
+
     ghost from_gives = { λ axis result. result.index ≡ axis_register axis };
 
     fn from(axis: Axis) -> Register {

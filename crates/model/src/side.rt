@@ -1,5 +1,5 @@
 // The sides that bound positions.
-ghost use Rattle.std.specs.Prelude.{◌≡◌, ◌^◌, ◌<◌, ◌≤◌, ◌+ℤ◌, int_le, unsigned_abs};
+ghost use Rattle.std.specs.Prelude.{◌≡◌, ◌^◌, ◌≤◌, ◌+ℤ◌, int_le, unsigned_abs};
 ghost use Rattle.model.specs.Sides.{signed, scaled};
 
 use crate::line::Axis;
@@ -11,14 +11,13 @@ pub enum Sign {
 }
 
 impl Sign {
-    pub fn times(self, n: i64) -> i64
-        requires { unsigned_abs n < 2 ^ 63 }
+    pub fn times(self, n: i32) -> i64
         ensures is { result ≡ signed self n }
-        ensures small { unsigned_abs result ≤ unsigned_abs n }
+        ensures small { unsigned_abs result ≤ 2 ^ 31 }
     {
         match self {
-            Sign::Plus => n,
-            Sign::Minus => -n,
+            Sign::Plus => n as i64,
+            Sign::Minus => -(n as i64),
         }
     }
 }
@@ -32,15 +31,14 @@ pub enum Factor {
 
 // A sign is no factor of zero: two short matches are plainer than a conversion and its lemma.
 impl Factor {
-    pub fn times(self, n: i64) -> i64
-        requires { unsigned_abs n < 2 ^ 63 }
+    pub fn times(self, n: i32) -> i64
         ensures is { result ≡ scaled self n }
-        ensures small { unsigned_abs result ≤ unsigned_abs n }
+        ensures small { unsigned_abs result ≤ 2 ^ 31 }
     {
         match self {
-            Factor::Plus => n,
+            Factor::Plus => n as i64,
             Factor::Zero => 0,
-            Factor::Minus => -n,
+            Factor::Minus => -(n as i64),
         }
     }
 }
@@ -56,9 +54,7 @@ pub struct Side {
 }
 
 // Whether a·v + b·w ≤ c. It takes the parts of a side, since sets of numbers have no axes.
-pub fn sum_at_most(a: Sign, v: i64, b: Factor, w: i64, c: i32) -> bool
-    requires v { unsigned_abs v ≤ 2 ^ 31 }
-    requires w { unsigned_abs w ≤ 2 ^ 31 }
+pub fn sum_at_most(a: Sign, v: i32, b: Factor, w: i32, c: i32) -> bool
     ensures { result ≡ int_le (signed a v +ℤ scaled b w) c }
 {
     a.times(v) + b.times(w) <= c as i64

@@ -11,22 +11,23 @@ use Rattle.model.specs.declared.expression.Term.TheVariants.{Number, Parameter a
 use Rattle.model.specs.declared.expression.Expression.{Expression}
 use Rattle.model.specs.declared.expression.Expression.TheVariants.{Bare, Apply}
 use Rattle.model.specs.declared.expression.Condition.{Condition}
-use Rattle.model.specs.Environments.{Env, Lies, LegalOf, at, fit, full, named, position}
+use Rattle.model.specs.Environments.{Env, Lies, LegalOf, at, full, named, position}
 use Rattle.model.specs.Axes.{along}
-use Rattle.model.specs.Sides.{axis_register, kept}
-use Rattle.model.specs.Values.{register, evaluate, holds, term as number}
-use Rattle.model.specs.Written.{Written, WrittenCondition}
+use Rattle.model.specs.Sides.{axis_register, kept, Proper}
+use Rattle.model.specs.Values.{register, evaluate, faultless, holds, term as number, number as held}
+use Rattle.model.specs.Written.{ExpressionOf, WrittenCondition}
 use Rattle.domain.specs.Lattice.{empty, single}
-use Rattle.domain.specs.Tracking.{Tracking}
-use Rattle.model.proofs.Numbers.{lies_in, in_lies}
+use Rattle.domain.specs.Tracking.{Tracking, LosesNothing}
+use Rattle.domain.specs.Leading.{tracked_loses_nothing}
+use Rattle.model.proofs.Numbers.{lies_in, in_lies, faultless_fit}
 use Rattle.number_sets.specs.declared.sets.Pair.{Pair}
 use Rattle.number_sets.specs.Sets.{NumberSets, LawfulSets}
 use Rattle.number_sets.specs.Exact.{ExactSets}
 use Rattle.pointwise.specs.States.{State, of, term, value, changed, put, narrow, keep, kept_sides}
 use Rattle.pointwise.specs.States.{set as set-state, join, sure, shows, range_of, pointwise}
 use Rattle.pointwise.specs.Tracks.{follows, tracks}
-use Rattle.pointwise.specs.StateLaws.{axis_named, axis_at, axis_lies, term_lies}
-use Rattle.pointwise.specs.StateTracks.{kept_follows, put_follows, set_follows, term_single, value_single, sharp, sharp_follows}
+use Rattle.pointwise.specs.StateLaws.{axis_named, axis_at, axis_lies, term_lies, operand_lies}
+use Rattle.pointwise.specs.StateTracks.{kept_follows, put_follows, set_follows, term_single, operand_single, value_single, sharp, sharp_follows}
 
 module _ {V : Type 0} (a : NumberSets V) (p : LawfulSets a) (x : ExactSets a) (n : ℕ) (enough : named ≤ n) where
   narrow_value : (s : State V) (r : ℕ) (z : Range) (e : Env) → r < n → LegalOf n e → follows a n s (opt.Some e) → Lies (at e r) z → follows a n (narrow a n s r z) (opt.Some e)
@@ -38,11 +39,11 @@ module _ {V : Type 0} (a : NumberSets V) (p : LawfulSets a) (x : ExactSets a) (n
   narrow_none opt.None r z i m = m
   narrow_none (opt.Some xs) r z i m = absurd m
 
-  set_value : (s : State V) (r : ℕ) (y : Expression) (e : Env) → r < n → Written y → LegalOf n e → follows a n s (opt.Some e) → fit (evaluate e y) ≡ true → follows a n (set-state a n s r y) (opt.Some (slice_set e r (evaluate e y)))
+  set_value : (s : State V) (r : ℕ) (y : Expression) (e : Env) → r < n → ExpressionOf n y → LegalOf n e → follows a n s (opt.Some e) → faultless e y ≡ true → follows a n (set-state a n s r y) (opt.Some (slice_set e r (evaluate e y)))
   set_value opt.None r y e i w l m f = m
   set_value (opt.Some xs) r y e i w l m f =
       let k = l.whole in
-      set_follows a p x n enough xs r (value a xs y) e (evaluate e y) (omega arith) (value_single a p x n enough y xs e w l m (lies_in _ full f)) m
+      set_follows a p x n enough xs r (value a xs y) e (evaluate e y) (omega arith) (value_single a p x n enough y xs e w l m (lies_in _ full (faultless_fit e y f))) m
 
   set_none : (s : State V) (r : ℕ) (y : Expression) → r < n → follows a n s opt.None → follows a n (set-state a n s r y) opt.None
   set_none opt.None r y i m = m
@@ -95,12 +96,12 @@ module _ {V : Type 0} (a : NumberSets V) (p : LawfulSets a) (x : ExactSets a) (n
   join_none opt.None t h m = m
   join_none (opt.Some xs) t h m = absurd h
 
-  sure_value : (s : State V) (y : Expression) (e : Env) → Written y → LegalOf n e → follows a n s (opt.Some e) → sure a n s y ≡ fit (evaluate e y)
+  sure_value : (s : State V) (y : Expression) (e : Env) → ExpressionOf n y → LegalOf n e → follows a n s (opt.Some e) → sure a n s y ≡ faultless e y
   sure_value opt.None y e w l m = absurd m
-  sure_value (opt.Some xs) (Bare t) e w l m = sym (in_lies _ full (term_lies a p n enough t e w l))
-  sure_value (opt.Some xs) (Apply o t u) e w l m =
-      ap₂ (a.fits o) (term_single a p x n enough t xs e m) (term_single a p x n enough u xs e m) ∙
-      x.fits_single o (number e t) (number e u) (term_lies a p n enough t e w.0 l) (term_lies a p n enough u e w.1 l)
+  sure_value (opt.Some xs) (Bare y) e w l m = sym (in_lies _ full (operand_lies a p n enough y e w l))
+  sure_value (opt.Some xs) (Apply o y z) e w l m =
+      ap₂ (a.fits o) (operand_single a p x n enough y xs e w.0 m) (operand_single a p x n enough z xs e w.1 m) ∙
+      x.fits_single o (held e y) (held e z) (operand_lies a p n enough y e w.0 l) (operand_lies a p n enough z e w.1 l)
 
   sure_none : (s : State V) (y : Expression) → follows a n s opt.None → sure a n s y ≡ true
   sure_none opt.None y m = refl
@@ -109,9 +110,9 @@ module _ {V : Type 0} (a : NumberSets V) (p : LawfulSets a) (x : ExactSets a) (n
   axis_single : (v : Axis) (xs : List V) (e : Env) → follows a n (opt.Some xs) (opt.Some e) → of a xs (axis_register v) ≡ a.single (along v (position e))
   axis_single v xs e m = let i = axis_named v in m (axis_register v) (omega arith) ∙ ap a.single (axis_at v e)
 
-  shows_value : (s : State V) (d : Side) (e : Env) → LegalOf n e → follows a n s (opt.Some e) → shows a n s d ≡ kept (position e) d
-  shows_value opt.None d e l m = absurd m
-  shows_value (opt.Some xs) d e l m =
+  shows_value : (s : State V) (d : Side) (e : Env) → Proper d → LegalOf n e → follows a n s (opt.Some e) → shows a n s d ≡ kept (position e) d
+  shows_value opt.None d e f l m = absurd m
+  shows_value (opt.Some xs) d e f l m =
       ap₂ (λ (v w : V). a.bounds d.a v d.b w d.c) (axis_single d.v xs e m) (axis_single d.w xs e m) ∙
       x.bounds_single d.a d.b (along d.v (position e)) (along d.w (position e)) d.c (axis_lies a p n enough d.v e l) (axis_lies a p n enough d.w e l)
 
@@ -127,7 +128,7 @@ module _ {V : Type 0} (a : NumberSets V) (p : LawfulSets a) (x : ExactSets a) (n
   range_none opt.None r z i m = refl
   range_none (opt.Some xs) r z i m = absurd m
 
-  pub state_tracking : Tracking n (pointwise a n) (tracks a n)
+  state_tracking : Tracking n (pointwise a n) (tracks a n)
   state_tracking = record {
     start = λ s e w h. sharp_follows a p x n enough s.sets e (sharp a p x n enough w h);
     narrow_value = λ s. narrow_value s.sets;
@@ -147,3 +148,6 @@ module _ {V : Type 0} (a : NumberSets V) (p : LawfulSets a) (x : ExactSets a) (n
     range_value = λ s. range_value s.sets;
     range_none = λ s. range_none s.sets;
   }
+
+  pub state_loses_nothing : LosesNothing n (pointwise a n)
+  state_loses_nothing = tracked_loses_nothing n (pointwise a n) (tracks a n) state_tracking

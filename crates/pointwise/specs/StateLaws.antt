@@ -9,21 +9,23 @@ use Rattle.model.specs.declared.range.Range.{Range}
 use Rattle.model.specs.declared.side.Side.{Side}
 use Rattle.model.specs.declared.expression.Parameter.{Parameter}
 use Rattle.model.specs.declared.expression.Parameter.TheVariants.{P1, P2, P3, P4, P5, P6}
+use Rattle.model.specs.declared.expression.Operand.{Operand}
+use Rattle.model.specs.declared.expression.Operand.TheVariants.{Number as OfNumber, Register as OfRegister}
 use Rattle.model.specs.declared.expression.Term.{Term}
 use Rattle.model.specs.declared.expression.Term.TheVariants.{Number, Parameter as Held}
 use Rattle.model.specs.declared.expression.Expression.{Expression}
 use Rattle.model.specs.declared.expression.Expression.TheVariants.{Bare, Apply}
 use Rattle.model.specs.declared.expression.Condition.{Condition}
-use Rattle.model.specs.Environments.{Env, Lies, LegalOf, at, fit, full, named, registers, position}
+use Rattle.model.specs.Environments.{Env, Lies, LegalOf, at, full, named, registers, position}
 use Rattle.model.specs.Axes.{along}
-use Rattle.model.specs.Sides.{axis_register, Holds}
-use Rattle.model.specs.Values.{register, evaluate, holds, term as number}
-use Rattle.model.specs.Written.{Written, WrittenTerm, WrittenCondition}
+use Rattle.model.specs.Sides.{axis_register, Holds, Proper}
+use Rattle.model.specs.Values.{register, evaluate, faultless, holds, term as number, number as held}
+use Rattle.model.specs.Written.{OperandOf, ExpressionOf, WrittenTerm, WrittenCondition}
 use Rattle.domain.specs.Lattice.{Lawful, Inside, empty}
-use Rattle.model.proofs.Numbers.{lies_in, in_lies}
+use Rattle.model.proofs.Numbers.{lies_in, in_lies, faultless_fit, fit_faultless}
 use Rattle.number_sets.specs.declared.sets.Pair.{Pair}
 use Rattle.number_sets.specs.Sets.{NumberSets, LawfulSets, HasSome, HasPair}
-use Rattle.pointwise.specs.States.{State, of, term, value, means, rank, changed, put, narrow, keep, kept_sides}
+use Rattle.pointwise.specs.States.{State, of, numbers, term, value, means, rank, changed, put, narrow, keep, kept_sides}
 use Rattle.pointwise.specs.States.{set as set-state, join, widen, within, sure, shows, range_of, pointwise}
 use Rattle.pointwise.specs.Tables.{build}
 use Rattle.pointwise.specs.Built.{at_build, every_at, every_fails, sum_le, sum_lt, sum_most}
@@ -86,24 +88,33 @@ module _ {V : Type 0} (a : NumberSets V) (p : LawfulSets a) (n : ℕ) (enough : 
   term_lies (Number k) e w l = w
   term_lies (Held q) e w l = l.fits (register q)
 
+  -- so is an operand's
+  pub operand_lies : (x : Operand) (e : Env) → OperandOf n x → LegalOf n e → Lies (held e x) full
+  operand_lies (OfNumber k) e w l = w
+  operand_lies (OfRegister r) e w l = l.fits r.index
+
+  operand_has : (x : Operand) (xs : List V) (e : Env) → OperandOf n x → means a n (opt.Some xs) e → a.has (numbers a xs x) (held e x)
+  operand_has (OfNumber k) xs e w m = p.single_has k w
+  operand_has (OfRegister r) xs e w m = m r.index w
+
   term_has : (t : Term) (xs : List V) (e : Env) → WrittenTerm t → means a n (opt.Some xs) e → a.has (term a xs t) (number e t)
   term_has (Number k) xs e w m = p.single_has k w
   term_has (Held q) xs e w m = let i = parameter_named q in m (register q) (omega arith)
 
-  value_has : (x : Expression) (xs : List V) (e : Env) → Written x → LegalOf n e → means a n (opt.Some xs) e → Lies (evaluate e x) full → HasSome a (value a xs x) (evaluate e x)
-  value_has (Bare t) xs e w l m f = term_has t xs e w m
-  value_has (Apply o t u) xs e w l m f =
-      p.apply_has o (term a xs t) (term a xs u) (number e t) (number e u) (term_lies t e w.0 l) (term_lies u e w.1 l) (term_has t xs e w.0 m) (term_has u xs e w.1 m) f
+  value_has : (x : Expression) (xs : List V) (e : Env) → ExpressionOf n x → LegalOf n e → means a n (opt.Some xs) e → Lies (evaluate e x) full → HasSome a (value a xs x) (evaluate e x)
+  value_has (Bare x) xs e w l m f = operand_has x xs e w m
+  value_has (Apply o x y) xs e w l m f =
+      p.apply_has o (numbers a xs x) (numbers a xs y) (held e x) (held e y) (operand_lies x e w.0 l) (operand_lies y e w.1 l) (operand_has x xs e w.0 m) (operand_has y xs e w.1 m) f
 
   narrow_holds : (s : State V) (r : ℕ) (x : Range) (e : Env) → r < n → LegalOf n e → means a n s e → Lies (at e r) x → means a n (narrow a n s r x) e
   narrow_holds opt.None r x e i l m h = m
   narrow_holds (opt.Some xs) r x e i l m h = put_means xs r (a.narrow (of a xs r) x) e (p.narrow_has (of a xs r) x (at e r) (l.fits r) (m r i) h) m
 
-  set_holds : (s : State V) (r : ℕ) (x : Expression) (e : Env) → r < n → Written x → LegalOf n e → means a n s e → fit (evaluate e x) ≡ true → means a n (set-state a n s r x) (slice_set e r (evaluate e x))
+  set_holds : (s : State V) (r : ℕ) (x : Expression) (e : Env) → r < n → ExpressionOf n x → LegalOf n e → means a n s e → faultless e x ≡ true → means a n (set-state a n s r x) (slice_set e r (evaluate e x))
   set_holds opt.None r x e i w l m f = m
   set_holds (opt.Some xs) r x e i w l m f =
       let k = l.whole in
-      put_set xs r (value a xs x) e (evaluate e x) (omega arith) (value_has x xs e w l m (lies_in _ full f)) m
+      put_set xs r (value a xs x) e (evaluate e x) (omega arith) (value_has x xs e w l m (lies_in _ full (faultless_fit e x f))) m
 
   registers_means : (xs : List V) (q r : ℕ) (c : Pair V) (e : Env) (b : Bool) → (q == r) ≡ b → LegalOf n e → a.has c.left (at e q) → a.has c.right (at e r) → means a n (opt.Some xs) e →
       means a n (cond b (put a n xs q (a.meet c.left c.right)) (opt.Some (changed a n (changed a n xs q c.left) r c.right))) e
@@ -154,11 +165,11 @@ module _ {V : Type 0} (a : NumberSets V) (p : LawfulSets a) (n : ℕ) (enough : 
   within_holds (opt.Some xs) opt.None e l y m = let z : ◌≡◌ {A = ℕ} 0 1 = cc in absurd (omega arith)
   within_holds (opt.Some xs) (opt.Some ys) e l y m = λ r i. p.inside_has _ _ _ (l.fits r) (every_at n _ r y i) (m r i)
 
-  sure_holds : (s : State V) (x : Expression) (e : Env) → Written x → LegalOf n e → sure a n s x ≡ true → means a n s e → fit (evaluate e x) ≡ true
+  sure_holds : (s : State V) (x : Expression) (e : Env) → ExpressionOf n x → LegalOf n e → sure a n s x ≡ true → means a n s e → faultless e x ≡ true
   sure_holds opt.None x e w l y m = absurd m
-  sure_holds (opt.Some xs) (Bare t) e w l y m = in_lies _ full (term_lies t e w l)
-  sure_holds (opt.Some xs) (Apply o t u) e w l y m =
-      in_lies _ full (p.fits_all o (term a xs t) (term a xs u) (number e t) (number e u) (term_lies t e w.0 l) (term_lies u e w.1 l) y (term_has t xs e w.0 m) (term_has u xs e w.1 m))
+  sure_holds (opt.Some xs) (Bare x) e w l y m = fit_faultless e (Bare x) (in_lies _ full (operand_lies x e w l))
+  sure_holds (opt.Some xs) (Apply o x y) e w l k m =
+      fit_faultless e (Apply o x y) (in_lies _ full (p.fits_all o (numbers a xs x) (numbers a xs y) (held e x) (held e y) (operand_lies x e w.0 l) (operand_lies y e w.1 l) k (operand_has x xs e w.0 m) (operand_has y xs e w.1 m)))
 
   axis_has : (v : Axis) (xs : List V) (e : Env) → means a n (opt.Some xs) e → a.has (of a xs (axis_register v)) (along v (position e))
   axis_has v xs e m = let i = axis_named v in subst (λ (u : ℤ). a.has (of a xs (axis_register v)) u) (axis_at v e) (m (axis_register v) (omega arith))
@@ -166,9 +177,9 @@ module _ {V : Type 0} (a : NumberSets V) (p : LawfulSets a) (n : ℕ) (enough : 
   pub axis_lies : (v : Axis) (e : Env) → LegalOf n e → Lies (along v (position e)) full
   axis_lies v e l = subst (λ (u : ℤ). Lies u full) (axis_at v e) (l.fits (axis_register v))
 
-  shows_holds : (s : State V) (d : Side) (e : Env) → LegalOf n e → shows a n s d ≡ true → means a n s e → Holds (position e) d
-  shows_holds opt.None d e l y m = absurd m
-  shows_holds (opt.Some xs) d e l y m = p.bounds_all d.a _ d.b _ d.c _ _ (axis_lies d.v e l) (axis_lies d.w e l) y (axis_has d.v xs e m) (axis_has d.w xs e m)
+  shows_holds : (s : State V) (d : Side) (e : Env) → Proper d → LegalOf n e → shows a n s d ≡ true → means a n s e → Holds (position e) d
+  shows_holds opt.None d e f l y m = absurd m
+  shows_holds (opt.Some xs) d e f l y m = p.bounds_all d.a _ d.b _ d.c _ _ (axis_lies d.v e l) (axis_lies d.w e l) y (axis_has d.v xs e m) (axis_has d.w xs e m)
 
   range_inside : (s : State V) (r : ℕ) (x : Range) → r < n → Inside (range_of a n s r x) x ⊎ (range_of a n s r x ≡ empty)
   range_inside opt.None r x i = inr refl
@@ -204,7 +215,7 @@ module _ {V : Type 0} (a : NumberSets V) (p : LawfulSets a) (n : ℕ) (enough : 
   pub state_lawful : Lawful n (pointwise a n)
   state_lawful = record {
     any_all = λ e l r i. built_has (λ k. a.whole) e r i (p.whole_has (at e r) (l.fits r));
-    none_empty = λ e m. m;
+    none_empty = λ e w m. m;
     narrow_holds = λ s. narrow_holds s.sets;
     keep_holds = λ s. keep_holds s.sets;
     set_holds = λ s. set_holds s.sets;

@@ -2,7 +2,7 @@
 use Rattle.std.specs.Prelude.{◌≡◌, ℕ, true, refl}
 use Rattle.std.specs.declared.option.Option.TheVariants as opt
 use Rattle.std.proofs.Common.{arith}
-use Rattle.model.specs.declared.expression.Term.{Term}
+use Rattle.model.specs.declared.expression.Operand.{Operand}
 use Rattle.model.specs.declared.expression.Expression.TheVariants.{Bare}
 use Rattle.domain.specs.Nothing.{Strict}
 use Rattle.number_sets.specs.Sets.{NumberSets}
@@ -22,9 +22,9 @@ module _ {V : Type 0} (a : NumberSets V) (n : ℕ) where
   within_only opt.None h = refl
   within_only (opt.Some xs) h = let z : ◌≡◌ {A = ℕ} 0 1 = cc in absurd (omega arith)
 
-  sure_bare : (s : State V) (t : Term) → sure a n s (Bare t) ≡ true
-  sure_bare opt.None t = refl
-  sure_bare (opt.Some xs) t = refl
+  sure_bare : (s : State V) (x : Operand) → sure a n s (Bare x) ≡ true
+  sure_bare opt.None x = refl
+  sure_bare (opt.Some xs) x = refl
 
   same : {s t : State V} → s ≡ t → ◌≡◌ {A = Pointwise V} (record { sets = s }) (record { sets = t })
   same p i = record { sets = p i }

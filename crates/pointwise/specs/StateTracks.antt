@@ -4,23 +4,25 @@ use Rattle.std.proofs.Common.{ap, ap₂, sym, ◌∙◌, subst, arith, get_or-se
 use Rattle.std.proofs.lemmas.Bool.{eqb-true, eqb-false}
 use Rattle.std.specs.declared.option.Option.TheVariants as opt
 use Rattle.model.specs.declared.range.Range.{Range}
+use Rattle.model.specs.declared.expression.Operand.{Operand}
+use Rattle.model.specs.declared.expression.Operand.TheVariants.{Number as OfNumber, Register as OfRegister}
 use Rattle.model.specs.declared.expression.Term.{Term}
 use Rattle.model.specs.declared.expression.Term.TheVariants.{Number, Parameter as Held}
 use Rattle.model.specs.declared.expression.Expression.{Expression}
 use Rattle.model.specs.declared.expression.Expression.TheVariants.{Bare, Apply}
 use Rattle.model.specs.Environments.{Env, Lies, LegalOf, at, full, named}
-use Rattle.model.specs.Values.{register, evaluate, term as number}
-use Rattle.model.specs.Written.{Written}
+use Rattle.model.specs.Values.{register, evaluate, term as number, number as held}
+use Rattle.model.specs.Written.{OperandOf, ExpressionOf}
 use Rattle.domain.specs.Lattice.{single}
 use Rattle.domain.specs.Tracking.{Sharpens, begin, cut, pin}
 use Rattle.domain.specs.PairTracks.{sharp_means, lies_single}
 use Rattle.number_sets.specs.Sets.{NumberSets, LawfulSets, HasSome}
 use Rattle.number_sets.specs.Exact.{ExactSets}
 use Rattle.pointwise.specs.declared.state.Pointwise.{Pointwise}
-use Rattle.pointwise.specs.States.{State, of, term, value, means, changed, put, narrow}
+use Rattle.pointwise.specs.States.{State, of, numbers, term, value, means, changed, put, narrow}
 use Rattle.pointwise.specs.States.{pointwise}
 use Rattle.pointwise.specs.Tracks.{follows}
-use Rattle.pointwise.specs.StateLaws.{parameter_named, state_lawful, term_lies, changed_at}
+use Rattle.pointwise.specs.StateLaws.{parameter_named, state_lawful, operand_lies, changed_at}
 
 module _ {V : Type 0} (a : NumberSets V) (p : LawfulSets a) (x : ExactSets a) (n : ℕ) (enough : named ≤ n) where
   kept_at : (xs : List V) (r : ℕ) (y : V) (e : Env) (k : ℕ) (b : Bool) → (k == r) ≡ b → y ≡ a.single (at e r) → of a xs k ≡ a.single (at e k) → cond b y (of a xs k) ≡ a.single (at e k)
@@ -48,10 +50,14 @@ module _ {V : Type 0} (a : NumberSets V) (p : LawfulSets a) (x : ExactSets a) (n
   term_single (Number k) xs e m = refl
   term_single (Held q) xs e m = let i = parameter_named q in m (register q) (omega arith)
 
-  pub value_single : (y : Expression) (xs : List V) (e : Env) → Written y → LegalOf n e → follows a n (opt.Some xs) (opt.Some e) → Lies (evaluate e y) full → value a xs y ≡ opt.Some (a.single (evaluate e y))
-  value_single (Bare t) xs e w l m f = ap opt.Some (term_single t xs e m)
-  value_single (Apply o t u) xs e w l m f =
-      ap₂ (a.apply o) (term_single t xs e m) (term_single u xs e m) ∙ x.apply_single o (number e t) (number e u) (term_lies a p n enough t e w.0 l) (term_lies a p n enough u e w.1 l) f
+  pub operand_single : (y : Operand) (xs : List V) (e : Env) → OperandOf n y → follows a n (opt.Some xs) (opt.Some e) → numbers a xs y ≡ a.single (held e y)
+  operand_single (OfNumber k) xs e w m = refl
+  operand_single (OfRegister r) xs e w m = m r.index w
+
+  pub value_single : (y : Expression) (xs : List V) (e : Env) → ExpressionOf n y → LegalOf n e → follows a n (opt.Some xs) (opt.Some e) → Lies (evaluate e y) full → value a xs y ≡ opt.Some (a.single (evaluate e y))
+  value_single (Bare y) xs e w l m f = ap opt.Some (operand_single y xs e w m)
+  value_single (Apply o y z) xs e w l m f =
+      ap₂ (a.apply o) (operand_single y xs e w.0 m) (operand_single z xs e w.1 m) ∙ x.apply_single o (held e y) (held e z) (operand_lies a p n enough y e w.0 l) (operand_lies a p n enough z e w.1 l) f
 
   -- registers below k have the environment's single numbers
   abbrev pub Sharp : ℕ → State V → Env → Type 0

@@ -5,13 +5,15 @@ use Rattle.model.specs.declared.range.Range.{Range}
 use Rattle.model.specs.declared.side.Side.{Side}
 use Rattle.model.specs.declared.expression.Term.{Term}
 use Rattle.model.specs.declared.expression.Term.TheVariants.{Number, Parameter as Held}
+use Rattle.model.specs.declared.expression.Operand.{Operand}
+use Rattle.model.specs.declared.expression.Operand.TheVariants.{Number as OfNumber, Register as OfRegister}
 use Rattle.model.specs.declared.expression.Expression.{Expression}
 use Rattle.model.specs.declared.expression.Expression.TheVariants.{Bare, Apply}
 use Rattle.model.specs.declared.expression.Condition.{Condition}
 use Rattle.model.specs.Environments.{Env, at}
 use Rattle.model.specs.Sides.{axis_register}
-use Rattle.model.specs.Values.{register}
-use Rattle.domain.specs.Lattice.{Lattice, empty}
+use Rattle.model.specs.Values.{register, operand}
+use Rattle.domain.specs.Lattice.{Lattice, Meaning, empty}
 use Rattle.number_sets.specs.declared.sets.Pair.{Pair}
 use Rattle.pointwise.specs.declared.state.Pointwise.{Pointwise}
 use Rattle.number_sets.specs.Sets.{NumberSets}
@@ -26,20 +28,24 @@ module _ {V : Type 0} (a : NumberSets V) where
   abbrev pub of : List V → ℕ → V
   of xs r = slice_index_or xs r a.whole
 
-  -- the numbers that a term may have
+  -- the numbers that an operand may have
+  abbrev pub numbers : List V → Operand → V
+  numbers xs (OfNumber k) = a.single k
+  numbers xs (OfRegister r) = of xs r.index
+
+  -- those of a term
   abbrev pub term : List V → Term → V
-  term xs (Number k) = a.single k
-  term xs (Held p) = of xs (register p)
+  term xs t = numbers xs (operand t)
 
   -- the results of an expression within the limit
   abbrev pub value : List V → Expression → Option V
-  value xs (Bare t) = opt.Some (term xs t)
-  value xs (Apply o t u) = a.apply o (term xs t) (term xs u)
+  value xs (Bare x) = opt.Some (numbers xs x)
+  value xs (Apply o x y) = a.apply o (numbers xs x) (numbers xs y)
 
-  -- no result of an expression lies beyond the limit; a term by itself never does
+  -- no result of an expression lies beyond the limit; an operand by itself never does
   abbrev pub sure_value : List V → Expression → Bool
-  sure_value xs (Bare t) = true
-  sure_value xs (Apply o t u) = a.fits o (term xs t) (term xs u)
+  sure_value xs (Bare x) = true
+  sure_value xs (Apply o x y) = a.fits o (numbers xs x) (numbers xs y)
 
   abbrev pub bounded : List V → Side → Bool
   bounded xs d = a.bounds d.a (of xs (axis_register d.v)) d.b (of xs (axis_register d.w)) d.c
@@ -120,9 +126,11 @@ module _ {V : Type 0} (a : NumberSets V) where
     range_of opt.None r x = empty
     range_of (opt.Some xs) r x = a.range (of xs r) x
 
-    abbrev pub pointwise : Lattice (Pointwise V)
+    abbrev pub state_means : Meaning (Pointwise V)
+    state_means s e = means s.sets e
+
+    abbrev pub pointwise : Lattice state_means
     pointwise = record {
-      means = λ s. means s.sets;
       rank = λ s. rank s.sets;
       any = record { sets = any };
       none = record { sets = opt.None };

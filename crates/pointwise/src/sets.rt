@@ -1,10 +1,10 @@
 // One set of numbers for each register: reading, writing, and two tables entry by entry.
 ghost use Rattle.std.specs.Prelude.{◌≡◌, ◌<◌};
 ghost use Rattle.model.specs.Environments.{registers};
-ghost use Rattle.pointwise.specs.States.{of, term, value, sure_value, bounded, changed};
+ghost use Rattle.pointwise.specs.States.{of, numbers, term, value, sure_value, bounded, changed};
 ghost use Rattle.pointwise.specs.Tables.{build, every, Computes};
 
-use model::expression::{Expression, Term};
+use model::expression::{Expression, Operand, Term};
 use model::register::{REGISTERS, Register};
 use model::side::Side;
 use number_sets::sets::NumberSet;
@@ -17,14 +17,21 @@ pub(crate) fn change<V: NumberSet>(sets: &mut [V; REGISTERS], register: Register
     sets[register.index] = set;
 }
 
-// The numbers that a term may have.
+// The numbers that an operand may have.
+fn numbers<V: NumberSet>(sets: &[V; REGISTERS], operand: Operand) -> V
+    ensures { result ≡ numbers V.NumberSet.sets sets.now operand }
+{
+    match operand {
+        Operand::Number(n) => V::single(n),
+        Operand::Register(r) => sets[r.index],
+    }
+}
+
+// Those of a term.
 pub(crate) fn term<V: NumberSet>(sets: &[V; REGISTERS], t: Term) -> V
     ensures { result ≡ term V.NumberSet.sets sets.now t }
 {
-    match t {
-        Term::Number(n) => V::single(n),
-        Term::Parameter(p) => sets[Register::from(p).index],
-    }
+    numbers(sets, t.into())
 }
 
 // The results of an expression that lie within the limit.
@@ -32,8 +39,8 @@ pub(crate) fn value<V: NumberSet>(sets: &[V; REGISTERS], expression: &Expression
     ensures { result ≡ value V.NumberSet.sets sets.now expression.now }
 {
     match *expression {
-        Expression::Bare(t) => Some(term(sets, t)),
-        Expression::Apply(op, left, right) => term(sets, left).apply(op, term(sets, right)),
+        Expression::Bare(x) => Some(numbers(sets, x)),
+        Expression::Apply(op, x, y) => numbers(sets, x).apply(op, numbers(sets, y)),
     }
 }
 
@@ -43,7 +50,7 @@ pub(crate) fn sure_value<V: NumberSet>(sets: &[V; REGISTERS], expression: &Expre
 {
     match *expression {
         Expression::Bare(_) => true,
-        Expression::Apply(op, left, right) => term(sets, left).fits(op, term(sets, right)),
+        Expression::Apply(op, x, y) => numbers(sets, x).fits(op, numbers(sets, y)),
     }
 }
 

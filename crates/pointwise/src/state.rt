@@ -2,12 +2,10 @@
 ghost use Rattle.std.specs.Prelude.{◌≡◌, ◌+◌, ◌*◌, ◌%◌, ◌^◌, true, Some};
 ghost use Rattle.std.specs.Option.{option_and_then};
 ghost use Rattle.model.specs.Environments.{registers};
-ghost use Rattle.pointwise.specs.States.{put, kept_registers, kept_sides, merged, pointwise};
+ghost use Rattle.pointwise.specs.States.{put, kept_registers, kept_sides, merged, pointwise, state_means};
 ghost use Rattle.pointwise.specs.Tables.{Computes};
-ghost use Rattle.pointwise.specs.Tracks.{tracks};
 ghost use Rattle.pointwise.specs.StateLaws.{state_lawful, registers_named, none_ranked};
 ghost use Rattle.pointwise.specs.StateNothing.{state_strict};
-ghost use Rattle.pointwise.specs.StateExact.{state_tracking};
 
 use crate::sets::{all_inside, bounded, change, pairwise, sure_value, term, value};
 use domain::domain::Domain;
@@ -20,7 +18,7 @@ use number_sets::sets::{NumberSet, Pair};
 // A set for each register, or no environment at all.
 #[derive(Clone, Copy)]
 pub struct Pointwise<V> {
-    pub sets: Option<[V; REGISTERS]>,
+    sets: Option<[V; REGISTERS]>,
 }
 
 // No number for one register leaves no environment at all.
@@ -88,21 +86,17 @@ impl<V: NumberSet> Domain for Pointwise<V> {
 
     ghost NONE_RANK = { (V.NumberSet.MOST_WIDENINGS * registers + 1) % 2 ^ 64 };
 
+    ghost means = { state_means V.NumberSet.sets registers };
+
     ghost lattice = { pointwise V.NumberSet.sets registers };
 
     ghost strict = { true };
-
-    ghost exact = { true };
-
-    ghost tracks = { tracks V.NumberSet.sets registers };
 
     ghost ranked = { none_ranked V.NumberSet.sets V.NumberSet.MOST_WIDENINGS V.NumberSet.widenings };
 
     ghost lawful = { state_lawful V.NumberSet.sets V.NumberSet.lawful registers registers_named };
 
     ghost nothing = { λ h. state_strict V.NumberSet.sets registers };
-
-    ghost tracking = { λ h. state_tracking V.NumberSet.sets V.NumberSet.lawful V.NumberSet.exact registers registers_named };
 
     #[tactic(auto, unfolding(crate::specs::Tables::build))]
     fn any() -> Self {

@@ -49,10 +49,10 @@ impl Interval {
     fn products(self, other: Interval) -> Ends
         ensures { result ≡ ends Op.Mul self other }
     {
-        let a = Op::Mul.apply(self.lo, other.lo);
-        let b = Op::Mul.apply(self.lo, other.hi);
-        let c = Op::Mul.apply(self.hi, other.lo);
-        let d = Op::Mul.apply(self.hi, other.hi);
+        let a = Op::Mul.apply(self.lo as i32, other.lo as i32);
+        let b = Op::Mul.apply(self.lo as i32, other.hi as i32);
+        let c = Op::Mul.apply(self.hi as i32, other.lo as i32);
+        let d = Op::Mul.apply(self.hi as i32, other.hi as i32);
         Ends {
             lo: least(a, b, c, d),
             hi: greatest(a, b, c, d),

@@ -1,17 +1,21 @@
-use Rattle.std.proofs.Common.{◌∙◌, w64, SFits}
+use Rattle.std.proofs.Common.{◌∙◌, w32, w64, SFits}
 use Rattle.std.proofs.lemmas.Int.{to_z-of_z}
 use Rattle.intervals.specs.Results.{least, greatest}
 use Rattle.intervals.specs.Same.{ends_same}
 use Rattle.intervals.specs.Products.{four_same}
-use Rattle.intervals.proofs.Bits.{lo_lies, hi_lies, lies_fits}
+use Rattle.intervals.proofs.Bits.{lo_lies, hi_lies, lies_fits, lies_narrow}
 use Rattle.intervals.proofs.interval.Interval.products.Goals as goal
 
 pub returns : goal.returns
 returns c =
-    let self-lo : SFits w64 c.args.self.lo = lies_fits _ (lo_lies c.args.self) in
-    let self-hi : SFits w64 c.args.self.hi = lies_fits _ (hi_lies c.args.self) in
-    let other-lo : SFits w64 c.args.other.lo = lies_fits _ (lo_lies c.args.other) in
-    let other-hi : SFits w64 c.args.other.hi = lies_fits _ (hi_lies c.args.other) in
+    let self-lo : SFits w32 c.args.self.lo = lies_narrow _ (lo_lies c.args.self) in
+    let self-hi : SFits w32 c.args.self.hi = lies_narrow _ (hi_lies c.args.self) in
+    let other-lo : SFits w32 c.args.other.lo = lies_narrow _ (lo_lies c.args.other) in
+    let other-hi : SFits w32 c.args.other.hi = lies_narrow _ (hi_lies c.args.other) in
+    let wide-self-lo : SFits w64 c.args.self.lo = lies_fits _ (lo_lies c.args.self) in
+    let wide-self-hi : SFits w64 c.args.self.hi = lies_fits _ (hi_lies c.args.self) in
+    let wide-other-lo : SFits w64 c.args.other.lo = lies_fits _ (lo_lies c.args.other) in
+    let wide-other-hi : SFits w64 c.args.other.hi = lies_fits _ (hi_lies c.args.other) in
     let fa : SFits w64 c.apply-a.result = record { sfits = c.apply-a.type_inv } in
     let fb : SFits w64 c.apply-b.result = record { sfits = c.apply-b.type_inv } in
     let fc : SFits w64 c.apply-c.result = record { sfits = c.apply-c.type_inv } in
