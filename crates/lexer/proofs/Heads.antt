@@ -5,7 +5,8 @@ use Rattle.lexer.specs.declared.class.Class.{Class}
 use Rattle.lexer.specs.declared.class.Class.TheVariants.{Letter, Digit, Mark, Blank}
 use Rattle.lexer.specs.declared.token.Token.{Token}
 use Rattle.lexer.specs.Classes.{class, same, run}
-use Rattle.lexer.specs.Parts.{size, size_by, start, Found}
+use Rattle.lexer.specs.Kinds.{size, size_by}
+use Rattle.lexer.specs.Parts.{start, Found}
 use Rattle.lexer.specs.Lexemes.{lexemes_from}
 
 skip : (n p : ℕ) (s : List ℕ) → n ≤ length s → lexemes_from n p s ≡ lexemes_from 0 (p + n) (drop n s)

@@ -6,7 +6,7 @@ use Rattle.std.proofs.lemmas.List.{take_at, drop_at, take-append-drop, length-ta
 use Rattle.lexer.specs.declared.class.Class.{Class}
 use Rattle.lexer.specs.declared.class.Class.TheVariants.{Letter, Digit, Blank, Mark}
 use Rattle.lexer.specs.Classes.{class, same, run}
-use Rattle.lexer.specs.Parts.{size, size_by}
+use Rattle.lexer.specs.Kinds.{size, size_by}
 use Rattle.lexer.specs.Lexemes.{Lexeme, Stops, IsToken, letters, digits, mark, LexemesAre, none, blank, token, lexemes_from, lexemes}
 use Rattle.lexer.proofs.Heads.{run_step, size_some, one}
 use Rattle.lexer.specs.Equality.{same_class, same_self}
@@ -44,7 +44,7 @@ size_within b bs Digit e = prefix_len-le-length (λ c. same (class c) Digit) (b 
 size_within b bs Blank e = omega arith
 size_within b bs Mark e = omega arith
 
-run_cons : (k : Class) (b : ℕ) (bs : List ℕ) → class b ≡ k → run k (b ∷ bs) ≡ suc (run k bs)
+pub run_cons : (k : Class) (b : ℕ) (bs : List ℕ) → class b ≡ k → run k (b ∷ bs) ≡ suc (run k bs)
 run_cons k b bs e = run_step k b bs ∙ ap (λ v. cond v (suc (run k bs)) 0) (ap (λ j. same j k) e ∙ same_self k)
 
 first_token : (b : ℕ) (bs : List ℕ) (k : Class) → class b ≡ k → (k ≡ Blank → ⊥) → IsToken (take (size_by k (b ∷ bs)) (b ∷ bs)) (drop (size_by k (b ∷ bs)) (b ∷ bs))

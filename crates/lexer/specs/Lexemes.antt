@@ -5,7 +5,7 @@ use Rattle.std.specs.List.{AllByRecursion}
 use Rattle.lexer.specs.declared.class.Class.{Class}
 use Rattle.lexer.specs.declared.class.Class.TheVariants.{Letter, Digit, Blank, Mark}
 use Rattle.lexer.specs.Classes.{class, same}
-use Rattle.lexer.specs.Parts.{size}
+use Rattle.lexer.specs.Kinds.{size}
 
 pub record Lexeme : Type 0 where
   pub place : ℕ

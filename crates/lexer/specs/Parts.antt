@@ -1,20 +1,11 @@
 -- The first token of a text, as a part of that text: which bytes it has, and where they lie in memory.
-use Rattle.std.specs.Prelude.{◌≡◌, ℕ, ◌+◌, ◌-◌, ◌<◌, ◌≤◌, List, length, take, drop, Some, None, Option, slice_index}
+use Rattle.std.specs.Prelude.{◌≡◌, ℕ, ◌+◌, ◌-◌, ◌<◌, ◌≤◌, List, length, take, drop, Some, None, Option}
 use Rattle.std.specs.Borrow.{Bor}
-use Rattle.lexer.specs.declared.class.Class.{Class}
-use Rattle.lexer.specs.declared.class.Class.TheVariants.{Letter, Digit, Blank, Mark}
+use Rattle.lexer.specs.declared.class.Class.TheVariants.{Blank}
+use Rattle.lexer.specs.declared.kind.Kind.{Kind}
 use Rattle.lexer.specs.declared.token.Token.{Token}
-use Rattle.lexer.specs.Classes.{class, run}
-
--- how long the first token is: all letters or digits that touch, else one byte
-abbrev pub size_by : Class → List ℕ → ℕ
-size_by Letter s = run Letter s
-size_by Digit s = run Digit s
-size_by Blank s = 1
-size_by Mark s = 1
-
-abbrev pub size : List ℕ → ℕ
-size s = size_by (class (slice_index s 0)) s
+use Rattle.lexer.specs.Classes.{run}
+use Rattle.lexer.specs.Kinds.{kind_of, size}
 
 -- p is the part of s from n on, m long, in the same block of memory
 pub record Part (s : Bor (List ℕ)) (n m : ℕ) (p : Bor (List ℕ)) : Type 0 where
@@ -22,10 +13,10 @@ pub record Part (s : Bor (List ℕ)) (n m : ℕ) (p : Bor (List ℕ)) : Type 0 w
   pub offset : p.ref_ptr.1 ≡ s.ref_ptr.1 + n
   pub bytes : p.now ≡ take m (drop n s.now)
 
--- s is cut behind its first token, unless it is empty
-abbrev pub Cut : Bor (List ℕ) → Option (Bor (List ℕ) × Bor (List ℕ)) → Type 0
+-- s is empty, or its first token is of the kind k and q is what is left behind that token
+abbrev pub Cut : Bor (List ℕ) → Option (Kind × Bor (List ℕ)) → Type 0
 Cut s None = length s.now ≡ 0
-Cut s (Some (p, q)) = Part s 0 (size s.now) p × Part s (size s.now) (length s.now - size s.now) q × (size s.now ≤ length s.now) × (0 < length s.now)
+Cut s (Some (k, q)) = (k ≡ kind_of s.now) × Part s (size s.now) (length s.now - size s.now) q × (size s.now ≤ length s.now) × (0 < length s.now)
 
 -- where the next token from n on begins: past the blanks
 abbrev pub start : List ℕ → ℕ → ℕ

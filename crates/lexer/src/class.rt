@@ -1,8 +1,9 @@
 // Classes of bytes, and runs of one class.
 ghost use Rattle.std.specs.Prelude.{◌≡◌, ◌≤◌, length};
 ghost use Rattle.lexer.specs.declared.class.Class.TheVariants.{Letter, Digit, Blank};
-ghost use Rattle.lexer.specs.Classes.{class, run};
+ghost use Rattle.lexer.specs.Classes.{run};
 
+/// What the definitions sort bytes into. The code has a test for each class, so that no byte of a run is sorted into all of them.
 #[derive(Clone, Copy, PartialEq, Eq)]
 pub enum Class {
     Letter,
@@ -11,25 +12,6 @@ pub enum Class {
     // any other byte, a token by itself
     Mark,
 }
-
-impl From<u8> for Class {
-    ghost from_gives = { λ b result. result ≡ class b };
-
-    fn from(b: u8) -> Class {
-        // the same tests as of the runs below, so that none is made twice
-        if b.is_ascii_digit() {
-            Class::Digit
-        } else if b.is_ascii_alphabetic() {
-            Class::Letter
-        } else if b == b' ' {
-            Class::Blank
-        } else {
-            Class::Mark
-        }
-    }
-}
-
-// A test for each class, so that a run is found without sorting its bytes into all of them.
 
 pub(crate) fn letters(s: &[u8]) -> usize
     ensures is { result ≡ run Letter s.now }

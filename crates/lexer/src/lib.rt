@@ -5,5 +5,6 @@
 pub mod class;
 pub mod digits;
 pub mod keyword;
+pub mod kind;
 pub mod lexer;
 pub mod token;
