@@ -1,7 +1,8 @@
 -- One parser after another reads one language after another, be the second one that reads to the end of the line or not.
-use Rattle.std.proofs.Common.{◌≡◌, ℕ, List, [], ◌∷◌, ◌++◌, sym, refl, ap, ◌∙◌, subst, ⊎_elim, append_assoc}
+use Rattle.std.proofs.Common.{◌≡◌, List, [], ◌∷◌, ◌++◌, sym, refl, ap, ◌∙◌, subst, ⊎_elim, append_assoc}
 use Rattle.model.specs.declared.line.Line.{Line}
 use Rattle.grammar.specs.declared.symbol.Symbol.{Symbol}
+use Rattle.grammar.specs.declared.refusal.Cause.{Cause}
 use Rattle.grammar.specs.Prefixes.{Lang, Follows, Viable, Ends, Refused, Stuck, nothing, Again}
 use Rattle.grammar.specs.Combinators.{got, bad, Parser, after, bind}
 use Rattle.grammar.proofs.Reading.{bindL, Reads, Lines}
@@ -15,7 +16,7 @@ module _ {A B : Type 0} (P : Lang A) (Q : A → Lang B) (p : Parser A) (rp : Rea
       (x.0 ++ y.0, y.1, (x.0, y.0, x.1, refl, x.2, y.2))
 
   -- stuck in the first part
-  module _ (us rest : List Symbol) (k : ℕ) (ts : List Symbol) (is : ts ≡ us ++ rest) (e : p ts ≡ bad k rest) where
+  module _ (us rest : List Symbol) (k : Cause) (ts : List Symbol) (is : ts ≡ us ++ rest) (e : p ts ≡ bad k rest) where
     -- so no word of the first part ends within us
     within : (xs zs : List Symbol) (a : A) → us ≡ xs ++ zs → P xs a → ⊥
     within xs zs a u x = never (p ts) (ap p (is ∙ ap (λ l. l ++ rest) u ∙ append_assoc xs zs rest) ∙ rp.whole xs (zs ++ rest) a x) e
@@ -50,7 +51,7 @@ module _ {A B : Type 0} (P : Lang A) (Q : A → Lang B) (p : Parser A) (rp : Rea
     one zs b y = (xs, zs, a, refl, x, y)
 
     -- M says what a row of the second part has named
-    second : (N M : List Symbol → Symbol → Type 0) → ((t : Symbol) → M ys t → N (xs ++ ys) t) → ((t : Symbol) → N (xs ++ ys) t → M ys t) → (ts rest : List Symbol) (k : ℕ) → ts ≡ xs ++ (ys ++ rest) →
+    second : (N M : List Symbol → Symbol → Type 0) → ((t : Symbol) → M ys t → N (xs ++ ys) t) → ((t : Symbol) → N (xs ++ ys) t → M ys t) → (ts rest : List Symbol) (k : Cause) → ts ≡ xs ++ (ys ++ rest) →
         Viable (Q a) ys → Refused k rest (Follows (Q a) ys) (Ends (Q a) ys) (M ys) → Stuck (bindL P Q) N ts k rest
     second N M to from ts rest k is (vs, b, y) r = (
       xs ++ ys,
@@ -80,7 +81,7 @@ module _ {A B : Type 0} (P : Lang A) (Q : A → Lang B) (p : Parser A) (q : A �
         | bad k r ↦ λ e h. never _ h refl
       ] refl
 
-  stuck : (ts rest : List Symbol) (k : ℕ) → bind p q ts ≡ bad k rest → Stuck (bindL P Q) nothing ts k rest
+  stuck : (ts rest : List Symbol) (k : Cause) → bind p q ts ≡ bad k rest → Stuck (bindL P Q) nothing ts k rest
   stuck ts rest k =
       elim (p ts) as (λ v. p ts ≡ v → after v q ≡ bad k rest → Stuck (bindL P Q) nothing ts k rest) [
         | got a r ↦ λ e h.
@@ -111,7 +112,7 @@ module _ {A : Type 0} (P : Lang A) (Q : A → Lang Line) (p : Parser A) (q : A �
         | bad k r ↦ λ e h. never _ h refl
       ] refl
 
-  refuses : (ts rest : List Symbol) (k : ℕ) → bind p q ts ≡ bad k rest → Stuck (bindL P Q) (Again (bindL P Q)) ts k rest
+  refuses : (ts rest : List Symbol) (k : Cause) → bind p q ts ≡ bad k rest → Stuck (bindL P Q) (Again (bindL P Q)) ts k rest
   refuses ts rest k =
       elim (p ts) as (λ v. p ts ≡ v → after v q ≡ bad k rest → Stuck (bindL P Q) (Again (bindL P Q)) ts k rest) [
         | got a r ↦ λ e h.

@@ -7,8 +7,7 @@ use Rattle.grammar.specs.Prefixes.{Lang, Follows, Viable, Stuck}
 use Rattle.grammar.specs.Prefixes.{Again}
 use Rattle.grammar.specs.Axes.{names}
 use Rattle.grammar.specs.declared.refusal.Cause.{Cause}
-use Rattle.grammar.specs.declared.refusal.Cause.TheVariants.{Unexpected}
-use Rattle.grammar.specs.Causes.{number_of}
+use Rattle.grammar.specs.declared.refusal.Cause.TheVariants.{Unexpected, Twice}
 use Rattle.grammar.specs.Combinators.{got, bad, Parser, after, tested, ends, or_more}
 use Rattle.grammar.proofs.Reading.{pure_l, or_moreL, Lines}
 use Rattle.grammar.proofs.Cuts.{never, refused_same, empty_cons}
@@ -29,10 +28,10 @@ module _ (l : Line) (none : (t : Symbol) → names l t ≡ false) where
   end_lawful [] rest b e = let r : rest ≡ [] = cc in let s : l ≡ b = cc in (r, (refl, s))
   end_lawful (t ∷ ts) rest b e = never _ e refl
 
-  end_refuses : (ts rest : List Symbol) (k : ℕ) → ends l ts ≡ bad k rest → Stuck (pure_l l) (Again (pure_l l)) ts k rest
+  end_refuses : (ts rest : List Symbol) (k : Cause) → ends l ts ≡ bad k rest → Stuck (pure_l l) (Again (pure_l l)) ts k rest
   end_refuses [] rest k e = never _ refl e
   end_refuses (t ∷ ts) rest k e =
-      let n : k ≡ 13 = cc in
+      let n : k ≡ Unexpected = cc in
       let same : t ∷ ts ≡ rest = cc in
       subst (λ x. Stuck (pure_l l) (Again (pure_l l)) (t ∷ ts) k x) same
       ([], refl, ([], l, (refl, refl)), (λ w. empty_cons (sym w.2.0), inr (inr (n, λ w. empty_cons (sym w.1.1.2.0), λ w. true_false w.2 (ap (λ m. names m t) (sym w.1.1) ∙ none t)))))
@@ -72,9 +71,9 @@ module _ {A : Type 0} (l : Line) (f : Symbol → Result A Cause) (Q : A → Lang
   accepts [] b (inr (u, vs, a, e, n, h, y)) = empty_cons e
   accepts (t ∷ ts) b (inl e) = empty_cons (sym e.0)
   accepts (t ∷ ts) b (inr (u, vs, a, e, n, h, y)) =
-      ap (or_more l f q) e ∙ ap (λ c. cond c (bad 15 (u ∷ vs)) (after (tested (f u) u vs) q)) n ∙ ap (λ c. after (tested c u vs) q) h ∙ (rq u a n h).accepts vs b y
+      ap (or_more l f q) e ∙ ap (λ c. cond c (bad Twice (u ∷ vs)) (after (tested (f u) u vs) q)) n ∙ ap (λ c. after (tested c u vs) q) h ∙ (rq u a n h).accepts vs b y
 
-  lawful_at : (t : Symbol) (ts rest : List Symbol) (b : Line) (c : Bool) (v : Result A Cause) → names l t ≡ c → f t ≡ v → cond c (bad 15 (t ∷ ts)) (after (tested v t ts) q) ≡ got b rest → (rest ≡ []) × or_moreL l f Q (t ∷ ts) b
+  lawful_at : (t : Symbol) (ts rest : List Symbol) (b : Line) (c : Bool) (v : Result A Cause) → names l t ≡ c → f t ≡ v → cond c (bad Twice (t ∷ ts)) (after (tested v t ts) q) ≡ got b rest → (rest ≡ []) × or_moreL l f Q (t ∷ ts) b
   lawful_at t ts rest b true v n h e = never _ e refl
   lawful_at t ts rest b false (Ok a) n h e = let s = (rq t a n h).lawful ts rest b e in (s.0, one t ts a b n h s.1)
   lawful_at t ts rest b false (Err c) n h e = never _ e refl
@@ -83,9 +82,9 @@ module _ {A : Type 0} (l : Line) (f : Symbol → Result A Cause) (Q : A → Lang
   lawful [] rest b e = let r : rest ≡ [] = cc in let s : l ≡ b = cc in (r, inl (refl, s))
   lawful (t ∷ ts) rest b e = lawful_at t ts rest b (names l t) (f t) refl refl e
 
-  refuses_at : (t : Symbol) (ts rest : List Symbol) (k : ℕ) (c : Bool) (v : Result A Cause) → names l t ≡ c → f t ≡ v → cond c (bad 15 (t ∷ ts)) (after (tested v t ts) q) ≡ bad k rest → Stuck (or_moreL l f Q) (Again (or_moreL l f Q)) (t ∷ ts) k rest
+  refuses_at : (t : Symbol) (ts rest : List Symbol) (k : Cause) (c : Bool) (v : Result A Cause) → names l t ≡ c → f t ≡ v → cond c (bad Twice (t ∷ ts)) (after (tested v t ts) q) ≡ bad k rest → Stuck (or_moreL l f Q) (Again (or_moreL l f Q)) (t ∷ ts) k rest
   refuses_at t ts rest k true v n h e =
-      let j : k ≡ 15 = cc in
+      let j : k ≡ Twice = cc in
       let same : t ∷ ts ≡ rest = cc in
       subst (λ x. Stuck (or_moreL l f Q) (Again (or_moreL l f Q)) (t ∷ ts) k x) same
       ([], refl, start, (λ w. true_false n (first t w).1, inl (j, (l, inl (refl, refl), n))))
@@ -103,13 +102,13 @@ module _ {A : Type 0} (l : Line) (f : Symbol → Result A Cause) (Q : A → Lang
             s.3,
       )
   refuses_at t ts rest k false (Err c) n h e =
-      let i : k ≡ number_of c = cc in
-      let j : k ≡ 13 = i ∙ ap number_of (wrong-only t c h) in
+      let i : k ≡ c = cc in
+      let j : k ≡ Unexpected = i ∙ wrong-only t c h in
       let same : t ∷ ts ≡ rest = cc in
       subst (λ x. Stuck (or_moreL l f Q) (Again (or_moreL l f Q)) (t ∷ ts) k x) same
       ([], refl, start, (λ w. clash (first t w).2 h, inr (inr (j, λ w. let d = first _ w.1.1 in no-digits _ d.0 d.2, λ w. true_false (named t w) n))))
 
-  refuses : (ts rest : List Symbol) (k : ℕ) → or_more l f q ts ≡ bad k rest → Stuck (or_moreL l f Q) (Again (or_moreL l f Q)) ts k rest
+  refuses : (ts rest : List Symbol) (k : Cause) → or_more l f q ts ≡ bad k rest → Stuck (or_moreL l f Q) (Again (or_moreL l f Q)) ts k rest
   refuses [] rest k e = never _ refl e
   refuses (t ∷ ts) rest k e = refuses_at t ts rest k (names l t) (f t) refl refl e
 

@@ -3,7 +3,7 @@ use Rattle.std.proofs.Common.{◌≡◌, ℕ, List, [], ◌∷◌, ◌++◌, ref
 use Rattle.grammar.specs.declared.symbol.Symbol.{Symbol}
 use Rattle.grammar.specs.Prefixes.{Lang, Follows, Viable, Stuck, nothing}
 use Rattle.grammar.specs.declared.refusal.Cause.{Cause}
-use Rattle.grammar.specs.Causes.{number_of}
+use Rattle.grammar.specs.declared.refusal.Cause.TheVariants.{Unexpected}
 use Rattle.grammar.specs.Combinators.{got, bad, Parser, tested, expect, pure}
 use Rattle.grammar.proofs.Reading.{Reads, oneL, pure_l, Lawful}
 use Rattle.grammar.proofs.Cuts.{stuck_same}
@@ -41,16 +41,16 @@ module _ {A : Type 0} (f : Symbol → Result A Cause) (lawful : Lawful f) where
   start : Viable (oneL f) []
   start = let s = lawful.some in (s.0 ∷ [], s.1, (s.0, refl, s.2))
 
-  stuck_at : (t : Symbol) (ts rest : List Symbol) (k : ℕ) (v : Result A Cause) → f t ≡ v → tested v t ts ≡ bad k rest → Stuck (oneL f) nothing (t ∷ ts) k rest
+  stuck_at : (t : Symbol) (ts rest : List Symbol) (k : Cause) (v : Result A Cause) → f t ≡ v → tested v t ts ≡ bad k rest → Stuck (oneL f) nothing (t ∷ ts) k rest
   stuck_at t ts rest k (Ok a) e h = absurd (let z : ◌≡◌ {A = ℕ} 0 1 = cc in omega arith)
   stuck_at t ts rest k (Err c) e h =
       let r : t ∷ ts ≡ rest = cc in
-      let n : k ≡ number_of c = cc in
+      let n : k ≡ c = cc in
       let no = λ (w : Follows (oneL f) [] t). clash (follows t w).0 (follows t w).1 e in
       subst (λ x. Stuck (oneL f) nothing (t ∷ ts) k x) r
       (⊎_elim
-      (λ l. ([], refl, start, (no, inr (inl (n ∙ ap number_of l.0, (l.1, (l.2.0, may _ l.2.1 l.2.2)))))))
-      (λ l. ([], refl, start, (no, inr (inr (n ∙ ap number_of l.0, λ w. l.1 w.0 w.1.0 (follows _ w.1.1).0 (follows _ w.1.1).1, λ x. x)))))
+      (λ l. ([], refl, start, (no, inr (inl (n ∙ l.0, (l.1, (l.2.0, may _ l.2.1 l.2.2)))))))
+      (λ l. ([], refl, start, (no, inr (inr (n ∙ l.0, λ w. l.1 w.0 w.1.0 (follows _ w.1.1).0 (follows _ w.1.1).1, λ x. x)))))
       (lawful.refused t c e))
 
   sound_at : (t : Symbol) (ts rest : List Symbol) (a : A) (v : Result A Cause) → f t ≡ v → tested v t ts ≡ got a rest → (us : List Symbol) × (t ∷ ts ≡ us ++ rest) × oneL f us a
@@ -64,10 +64,10 @@ module _ {A : Type 0} (f : Symbol → Result A Cause) (lawful : Lawful f) where
   sound [] rest a h = absurd (let z : ◌≡◌ {A = ℕ} 0 1 = cc in omega arith)
   sound (t ∷ ts) rest a h = sound_at t ts rest a (f t) refl h
 
-  stuck : (ts rest : List Symbol) (k : ℕ) → expect f ts ≡ bad k rest → Stuck (oneL f) nothing ts k rest
+  stuck : (ts rest : List Symbol) (k : Cause) → expect f ts ≡ bad k rest → Stuck (oneL f) nothing ts k rest
   stuck [] rest k h =
       let r : [] ≡ rest = cc in
-      let n : k ≡ 13 = cc in
+      let n : k ≡ Unexpected = cc in
       subst (λ x. Stuck (oneL f) nothing [] k x) r ([], refl, start, (n, λ w. let e = w.1.1 in let z : ◌≡◌ {A = ℕ} 0 1 = cc in omega arith))
   stuck (t ∷ ts) rest k h = stuck_at t ts rest k (f t) refl h
 

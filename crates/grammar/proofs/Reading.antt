@@ -34,12 +34,12 @@ pub record Lawful {A : Type 0} (f : Symbol → Result A Cause) : Type 0 where
 pub record Reads {A : Type 0} (L : Lang A) (p : Parser A) : Type 0 where
   pub whole : (us rest : List Symbol) (a : A) → L us a → p (us ++ rest) ≡ got a rest
   pub sound : (ts rest : List Symbol) (a : A) → p ts ≡ got a rest → (us : List Symbol) × (ts ≡ us ++ rest) × L us a
-  pub stuck : (ts rest : List Symbol) (k : ℕ) → p ts ≡ bad k rest → Stuck L nothing ts k rest
+  pub stuck : (ts rest : List Symbol) (k : Cause) → p ts ≡ bad k rest → Stuck L nothing ts k rest
   pub some : (us : List Symbol) × (a : A) × L us a
 
 -- the same of a parser that reads to the end of the line, where axes may be named twice
 pub record Lines (L : Lang Line) (p : Parser Line) : Type 0 where
   pub accepts : (ts : List Symbol) (l : Line) → L ts l → p ts ≡ got l []
   pub lawful : (ts rest : List Symbol) (l : Line) → p ts ≡ got l rest → (rest ≡ []) × L ts l
-  pub refuses : (ts rest : List Symbol) (k : ℕ) → p ts ≡ bad k rest → Stuck L (Again L) ts k rest
+  pub refuses : (ts rest : List Symbol) (k : Cause) → p ts ≡ bad k rest → Stuck L (Again L) ts k rest
   pub some : (us : List Symbol) × (l : Line) × L us l

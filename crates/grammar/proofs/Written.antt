@@ -1,5 +1,5 @@
 -- A line of the grammar has numbers within the limit only, and so has each line that a text is read as.
-use Rattle.std.proofs.Common.{ℕ, ◌≤◌, List, ◌∷◌, pos, neg_ℤ, Some, None, Option, arith}
+use Rattle.std.proofs.Common.{ℕ, ◌≤◌, List, ◌∷◌, pos, neg_ℤ, Some, None, Option, Ok, Err, Result, arith}
 use Rattle.std.proofs.lemmas.Int.{ints}
 use Rattle.model.specs.declared.expression.Term.{Term}
 use Rattle.model.specs.declared.expression.Value.{Value}
@@ -10,12 +10,12 @@ use Rattle.model.specs.declared.line.Line.{Line}
 use Rattle.model.specs.Limits.{limit}
 use Rattle.model.specs.Environments.{Lies, full}
 use Rattle.model.specs.Values.{Values, four}
-use Rattle.model.specs.Written.{WrittenTerm, Written, WrittenCondition, WrittenValues, WrittenLine}
+use Rattle.model.specs.Written.{WrittenTerm, WrittenValue, WrittenCondition, WrittenValues, WrittenLine}
+use Rattle.grammar.specs.declared.refusal.Refusal.{Refusal}
 use Rattle.grammar.specs.declared.symbol.Symbol.{Symbol}
 use Rattle.grammar.specs.Axes.{AxisValues, put, no_values}
 use Rattle.grammar.specs.Grammar.{TermIs, ValueIs, ConditionIs, WordsAre, LineIs}
 use Rattle.grammar.specs.Grammar as is
-use Rattle.grammar.specs.Answer.{Answer, read, refused}
 use Rattle.grammar.specs.Law.{Answers, too_long, spoilt, accepted, stuck, TheAnswer}
 
 plus_lies : (n : ℕ) → n ≤ limit → Lies (pos n) full
@@ -30,7 +30,7 @@ term_written ts t (is.plus n h) = plus_lies n h
 term_written ts t (is.minus n h) = minus_lies n h
 term_written ts t (is.parameter n l h) = tt
 
-value_written : (vs : List Symbol) (v : Value) → ValueIs vs v → Written v.expression
+value_written : (vs : List Symbol) (v : Value) → ValueIs vs v → WrittenValue v
 value_written vs v (is.term h) = term_written _ _ h
 value_written vs v (is.op ha o hb) = (term_written _ _ ha, term_written _ _ hb)
 
@@ -51,7 +51,7 @@ before : (o : Option Value) (vs ws : Values) → (WrittenValues vs → WrittenVa
 before None vs ws f h = f h
 before (Some v) vs ws f h = (h.0, f h.1)
 
-put_written : (m : AxisValues) (a : Axis) (v : Value) → Written v.expression → WrittenAxes m → WrittenAxes (put m a v)
+put_written : (m : AxisValues) (a : Axis) (v : Value) → WrittenValue v → WrittenAxes m → WrittenAxes (put m a v)
 put_written m X v w h = (w, behind m.x _ h)
 put_written m Y v w h = before m.x _ _ (λ h. (w, behind m.y _ h)) h
 put_written m Z v w h = before m.x _ _ (before m.y _ _ (λ h. (w, behind m.z _ h))) h
@@ -72,15 +72,15 @@ line_written row x (is.endif n l h) = tt
 line_written row x (is.endwhile n l h) = tt
 
 -- what an answer says of the line that it reads
-abbrev WrittenAnswer : Answer → Type 0
-WrittenAnswer (read x) = WrittenLine x
-WrittenAnswer (refused k p) = Unit {0}
+abbrev WrittenAnswer : Result Line Refusal → Type 0
+WrittenAnswer (Ok x) = WrittenLine x
+WrittenAnswer (Err e) = Unit {0}
 
-answer_written : (s : List ℕ) (a : Answer) → Answers s a → WrittenAnswer a
-answer_written s a (too_long h) = tt
-answer_written s a (spoilt p h) = tt
-answer_written s a (accepted ts x c t h) = line_written _ x h
-answer_written s a (stuck k p c h) = tt
+answer_written : (s : List ℕ) (r : Result Line Refusal) → Answers s r → WrittenAnswer r
+answer_written s r (too_long h) = tt
+answer_written s r (spoilt p h) = tt
+answer_written s r (accepted ts x c t h) = line_written _ x h
+answer_written s r (stuck c p h a) = tt
 
-pub read_written : (s : List ℕ) (x : Line) → TheAnswer s (read x) → WrittenLine x
-read_written s x h = answer_written s (read x) h.is
+pub read_written : (s : List ℕ) (x : Line) → TheAnswer s (Ok x) → WrittenLine x
+read_written s x h = answer_written s (Ok x) h.is

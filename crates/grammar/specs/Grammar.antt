@@ -7,8 +7,8 @@ use Rattle.model.specs.declared.expression.Term.{Term}
 use Rattle.model.specs.declared.expression.Term.TheVariants.{Number, Parameter as Held}
 use Rattle.model.specs.declared.expression.Op.{Op}
 use Rattle.model.specs.declared.expression.Op.TheVariants.{Add, Sub, Mul}
-use Rattle.model.specs.declared.expression.Expression.TheVariants.{Bare, Apply}
 use Rattle.model.specs.declared.expression.Value.{Value}
+use Rattle.model.specs.declared.expression.Value.TheVariants.{Term as OneTerm, Joined}
 use Rattle.model.specs.declared.expression.Rel.{Rel}
 use Rattle.model.specs.declared.expression.Condition.{Condition}
 use Rattle.model.specs.declared.line.Axis.{Axis}
@@ -25,10 +25,10 @@ parameter_of n = cond (n == 1) P1 (cond (n == 2) P2 (cond (n == 3) P3 (cond (n =
 
 -- a value that is a term, and one that applies an operator to two terms
 abbrev pub bare : Term → Value
-bare t = record { expression = Bare t }
+bare t = OneTerm t
 
 abbrev pub applied : Op → Term → Term → Value
-applied o a b = record { expression = Apply o a b }
+applied o a b = Joined o a b
 
 -- a term is digits with an optional sign, at most the greatest length, or # digits, 1 to 6
 pub data TermIs : List Symbol → Term → Type 0 where

@@ -1,10 +1,11 @@
+pub mod Limits
+pub mod Causes
 pub mod Axes
 pub mod Symbols
 pub mod Grammar
 pub mod Prefixes
 pub mod Tests
 pub mod Equality
-pub mod Causes
 pub mod Combinators
 pub mod Parser
 pub mod Answer

@@ -25,6 +25,7 @@ use Rattle.grammar.specs.declared.symbol.LineStart.TheVariants.{Setting as setti
 use Rattle.grammar.specs.Axes.{AxisValues, put, no_values, count, motion_of, moved}
 use Rattle.grammar.specs.Grammar.{parameter_of, bare, applied}
 use Rattle.grammar.specs.declared.refusal.Cause.{Cause}
+use Rattle.grammar.specs.declared.refusal.Cause.TheVariants.{Unexpected}
 use Rattle.grammar.specs.Combinators.{Parser, bad, bind, pure, expect, ends, or_more}
 use Rattle.grammar.specs.Tests.{words, mixed, digits, only, axis, relation}
 use Rattle.model.specs.Limits.{limit}
@@ -102,7 +103,7 @@ setting = bind (expect (digits 1 6)) after_number
 
 -- ---- moves; the axis words go on for as many axes as have no value yet
 abbrev pub more : ℕ → Motion → AxisValues → Parser Line
-more zero g m = or_more (moved g m) axis (λ a ts. bad 13 ts)
+more zero g m = or_more (moved g m) axis (λ a ts. bad Unexpected ts)
 more (suc n) g m = or_more (moved g m) axis (λ a. bind value (λ v. more n g (put m a v)))
 
 abbrev pub more_words : Motion → AxisValues → Parser Line

@@ -4,6 +4,8 @@ use Rattle.std.specs.Prelude.{◌≡◌, ℕ, true, ◌⊎◌, List, [], ◌∷�
 use Rattle.model.specs.declared.line.Line.{Line}
 use Rattle.grammar.specs.declared.symbol.Symbol.{Symbol}
 use Rattle.grammar.specs.declared.symbol.Symbol.TheVariants.{Fixed, Digits, Long, Letter, Relation, Unknown}
+use Rattle.grammar.specs.declared.refusal.Cause.{Cause}
+use Rattle.grammar.specs.declared.refusal.Cause.TheVariants.{Unexpected, Limit, Twice}
 use Rattle.grammar.specs.Axes.{names}
 
 abbrev pub Lang : Type 0 → Type 1
@@ -34,19 +36,19 @@ IsDigits Unknown = ⊥
 abbrev pub Expected : Symbol → (Symbol → Type 0) → Type 0
 Expected t F = IsDigits t × ((n : ℕ) × F (Digits n))
 
--- the number of the refusal at the symbol t, where F may follow and N is named already: 15 for what is named already,
--- 14 for digits out of bounds where digits may stand, 13 for anything else
-abbrev pub Cause : ℕ → Symbol → (Symbol → Type 0) → (Symbol → Type 0) → Type 0
-Cause k t F N = ((k ≡ 15) × N t) ⊎ (((k ≡ 14) × Expected t F) ⊎ ((k ≡ 13) × (Expected t F → ⊥) × (N t → ⊥)))
+-- why the symbol t is refused, where F may follow and N is named already: Twice for what is named already,
+-- Limit for digits out of bounds where digits may stand, Unexpected for anything else
+abbrev pub CauseAt : Cause → Symbol → (Symbol → Type 0) → (Symbol → Type 0) → Type 0
+CauseAt c t F N = ((c ≡ Twice) × N t) ⊎ (((c ≡ Limit) × Expected t F) ⊎ ((c ≡ Unexpected) × (Expected t F → ⊥) × (N t → ⊥)))
 
--- k is the number of the refusal at the first symbol of rest, which may not follow; or rest is empty, and no row ends here
-abbrev pub Refused : ℕ → List Symbol → (Symbol → Type 0) → Type 0 → (Symbol → Type 0) → Type 0
-Refused k [] F E N = (k ≡ 13) × (E → ⊥)
-Refused k (t ∷ rest) F E N = (F t → ⊥) × Cause k t F N
+-- c is why the first symbol of rest is refused, which may not follow; or rest is empty, and no row ends here
+abbrev pub Refused : Cause → List Symbol → (Symbol → Type 0) → Type 0 → (Symbol → Type 0) → Type 0
+Refused c [] F E N = (c ≡ Unexpected) × (E → ⊥)
+Refused c (t ∷ rest) F E N = (F t → ⊥) × CauseAt c t F N
 
--- the symbols before rest begin a row of the language, and rest is refused with k; N says what a row has named already
-abbrev pub Stuck : {A : Type 0} → Lang A → (List Symbol → Symbol → Type 0) → List Symbol → ℕ → List Symbol → Type 0
-Stuck L N ts k rest = (us : List Symbol) × (ts ≡ us ++ rest) × Viable L us × Refused k rest (Follows L us) (Ends L us) (N us)
+-- the symbols before rest begin a row of the language, and rest is refused for c; N says what a row has named already
+abbrev pub Stuck : {A : Type 0} → Lang A → (List Symbol → Symbol → Type 0) → List Symbol → Cause → List Symbol → Type 0
+Stuck L N ts c rest = (us : List Symbol) × (ts ≡ us ++ rest) × Viable L us × Refused c rest (Follows L us) (Ends L us) (N us)
 
 -- where nothing is ever named
 abbrev pub nothing : List Symbol → Symbol → Type 0

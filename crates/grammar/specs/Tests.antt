@@ -10,6 +10,7 @@ use Rattle.grammar.specs.declared.symbol.Symbol.TheVariants.{Fixed, Digits, Long
 use Rattle.grammar.specs.declared.refusal.Cause.{Cause}
 use Rattle.grammar.specs.declared.refusal.Cause.TheVariants.{Unexpected, Limit}
 use Rattle.grammar.specs.declared.refusal.Refusal.{Refusal}
+use Rattle.grammar.specs.Causes.{refused}
 
 -- the two are one keyword; Equality shows that it is so exactly where they are
 abbrev pub same_keyword : Keyword → Keyword → Bool
@@ -70,4 +71,4 @@ tried f (Some t) = f t
 
 abbrev pub outcome : {A : Type 0} → Result A Cause → ℕ → Result A Refusal
 outcome (Ok a) p = Ok a
-outcome (Err c) p = Err (record { cause = c; place = p })
+outcome (Err c) p = refused c p

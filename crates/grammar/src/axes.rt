@@ -2,4 +2,5 @@
 use model::axes::Axes;
 use model::expression::Value;
 
+/// A value for each axis that the move names.
 pub type AxisValues = Axes<Option<Value>>;

@@ -2,22 +2,23 @@
 ghost use Rattle.std.specs.Prelude.{◌≡◌};
 ghost use Rattle.grammar.specs.Causes.{number_of};
 
+/// Why a text is no line.
 #[derive(Clone, Copy)]
 pub enum Cause {
-    // more than 120 bytes
+    /// The text is longer than any that is read.
     Length,
-    // a byte that no line has
+    /// It holds a byte that no text may hold.
     Byte,
-    // a token that does not belong there
+    /// A token does not belong there, or the text ends too early.
     Unexpected,
-    // a number out of bounds, where one may stand
+    /// A number is out of bounds, where one may stand.
     Limit,
-    // an axis that the move has named before
+    /// The move has named this axis before.
     Twice,
 }
 
 impl Cause {
-    // The number by which the refusal is printed; u32::from would not say which number it gives.
+    /// The number by which the refusal is printed; `u32::from` would not say which number it gives.
     pub fn number(self) -> u32
         ensures { result ≡ number_of self }
     {
@@ -31,6 +32,7 @@ impl Cause {
     }
 }
 
+/// Why a text is no line, and at which byte, counted from 0; a text that ends too early is refused at its length.
 #[derive(Clone, Copy)]
 pub struct Refusal {
     pub cause: Cause,

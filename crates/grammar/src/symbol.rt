@@ -2,7 +2,7 @@
 use model::expression::{Rel, Term};
 use model::line::Axis;
 
-// The tokens that the grammar spells out.
+/// The tokens that the grammar spells out.
 #[derive(Clone, Copy, PartialEq, Eq)]
 pub enum Keyword {
     Hash,
@@ -20,25 +20,27 @@ pub enum Keyword {
     EndWhile,
 }
 
+/// What a token is, wherever it stands.
 #[derive(Clone, Copy)]
 pub enum Symbol {
     Fixed(Keyword),
-    // at most eight digits, by their number
+    /// At most eight digits, by their number.
     Digits(u32),
-    // more than eight digits
+    /// More than eight digits.
     Long,
     Letter(Axis),
     Relation(Rel),
     Unknown,
 }
 
-// A symbol with the place of its token; at the end of the text none, with the text's length.
+/// A symbol with the place of its token; at the end of the text none, with the text's length.
 #[derive(Clone, Copy)]
 pub struct Item {
     pub place: usize,
     pub symbol: Option<Symbol>,
 }
 
+/// What the first symbol of a term begins.
 #[derive(Clone, Copy)]
 pub enum TermStart {
     Whole(Term),
@@ -47,12 +49,14 @@ pub enum TermStart {
     Hash,
 }
 
+/// What the first symbol of a value begins.
 #[derive(Clone, Copy)]
 pub enum ValueStart {
     Opens,
     Begins(TermStart),
 }
 
+/// The word behind the label of a block line.
 #[derive(Clone, Copy)]
 pub enum BlockWord {
     While,
@@ -61,6 +65,7 @@ pub enum BlockWord {
     EndWhile,
 }
 
+/// What the first symbol of a line begins.
 #[derive(Clone, Copy)]
 pub enum LineStart {
     Setting,

@@ -10,7 +10,8 @@ use Rattle.model.specs.declared.block.Role.TheVariants.{Opens, Ends, Neither}
 use Rattle.model.proofs.Found.{made}
 use Rattle.model.specs.Blocks.{role_of, open_blocks, labels, block_number}
 use Rattle.program.specs.declared.table.Program.{Program}
-use Rattle.program.specs.Refusals.{max_lines, max_blocks, role_answer, push_answer, all_taken}
+use Rattle.program.specs.Limits.{max_lines, max_blocks}
+use Rattle.program.specs.Refusals.{role_answer, push_answer, all_taken}
 use Rattle.program.proofs.Nested.{taken_more}
 use Rattle.program.specs.Agree.{no_block, Agrees, Last}
 use Rattle.program.specs.Held.{held, held_blocks}

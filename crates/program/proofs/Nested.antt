@@ -11,7 +11,8 @@ use Rattle.model.specs.Programs.{Stands, opening, Once, Innermost, Fits, Leads, 
 use Rattle.model.proofs.Standing.{stands_later, some_one, none_some}
 use Rattle.program.specs.declared.refusal.TableRefusal.{TableRefusal}
 use Rattle.program.specs.declared.refusal.TableRefusal.TheVariants.{Lines, Label, Blocks, End}
-use Rattle.program.specs.Refusals.{max_lines, max_blocks, same_kind, fits, role_answer, push_answer, all_taken}
+use Rattle.program.specs.Limits.{max_lines, max_blocks}
+use Rattle.program.specs.Refusals.{same_kind, fits, role_answer, push_answer, all_taken}
 use Rattle.program.proofs.Readings.{open_more}
 use Rattle.grammar.proofs.Mores.{true_false}
 

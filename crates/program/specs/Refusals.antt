@@ -8,12 +8,7 @@ use Rattle.model.specs.declared.block.Role.TheVariants.{Opens, Ends, Neither}
 use Rattle.model.specs.Blocks.{Stack, role_of, open_blocks, labels, place_from}
 use Rattle.program.specs.declared.refusal.TableRefusal.{TableRefusal}
 use Rattle.program.specs.declared.refusal.TableRefusal.TheVariants.{Lines, End, Label, Blocks}
-
-abbrev pub max_lines : ℕ
-max_lines = 128
-
-abbrev pub max_blocks : ℕ
-max_blocks = 16
+use Rattle.program.specs.Limits.{max_lines, max_blocks}
 
 abbrev pub same_kind : BlockKind → BlockKind → Bool
 same_kind While While = true
@@ -40,13 +35,6 @@ push_answer xs x = cond (nat_le max_lines (length xs)) (Err Lines) (role_answer 
 abbrev pub pushed : Result (Unit {0}) TableRefusal → List Line → Line → List Line
 pushed (Ok u) xs x = xs ++ (x ∷ [])
 pushed (Err e) xs x = xs
-
--- the number under which a refusal is reported
-abbrev pub table_number : TableRefusal → ℕ
-table_number Lines = 21
-table_number End = 22
-table_number Label = 23
-table_number Blocks = 24
 
 -- each of the lines ys is taken, where xs are held before them
 abbrev pub all_taken : List Line → List Line → Bool

@@ -2,8 +2,8 @@
 use Rattle.std.specs.Prelude.{Bool, true, ◌&&◌, List, [], ◌∷◌, Some, None}
 use Rattle.model.specs.declared.expression.Term.{Term}
 use Rattle.model.specs.declared.expression.Term.TheVariants.{Number, Parameter as Held}
-use Rattle.model.specs.declared.expression.Expression.{Expression}
-use Rattle.model.specs.declared.expression.Expression.TheVariants.{Bare, Apply}
+use Rattle.model.specs.declared.expression.Value.{Value}
+use Rattle.model.specs.declared.expression.Value.TheVariants.{Term as OneTerm, Joined}
 use Rattle.model.specs.declared.expression.Condition.{Condition}
 use Rattle.model.specs.declared.line.Line.{Line}
 use Rattle.model.specs.declared.line.Line.TheVariants.{Plain, Setting, Move, While, If, EndIf, EndWhile}
@@ -14,9 +14,9 @@ abbrev pub is_written_term : Term → Bool
 is_written_term (Number n) = fit n
 is_written_term (Held p) = true
 
-abbrev pub is_written_expression : Expression → Bool
-is_written_expression (Bare t) = is_written_term t
-is_written_expression (Apply o t u) = is_written_term t && is_written_term u
+abbrev pub is_written_value : Value → Bool
+is_written_value (OneTerm t) = is_written_term t
+is_written_value (Joined o t u) = is_written_term t && is_written_term u
 
 abbrev pub is_written_condition : Condition → Bool
 is_written_condition c = is_written_term c.left && is_written_term c.right
@@ -24,11 +24,11 @@ is_written_condition c = is_written_term c.left && is_written_term c.right
 abbrev pub are_written_values : Values → Bool
 are_written_values [] = true
 are_written_values (None ∷ vs) = are_written_values vs
-are_written_values (Some v ∷ vs) = is_written_expression v.expression && are_written_values vs
+are_written_values (Some v ∷ vs) = is_written_value v && are_written_values vs
 
 abbrev pub is_written : Line → Bool
 is_written Plain = true
-is_written (Setting p v) = is_written_expression v.expression
+is_written (Setting p v) = is_written_value v
 is_written (Move g x y z u) = are_written_values (four x y z u)
 is_written (While l c) = is_written_condition c
 is_written (If l c) = is_written_condition c

@@ -1,27 +1,30 @@
 // Why a program takes no line.
 ghost use Rattle.std.specs.Prelude.{◌≡◌};
-ghost use Rattle.program.specs.Entry.{line_number, line_place};
+ghost use Rattle.model.specs.Refusals.{place_in};
+ghost use Rattle.program.specs.Numbers.{table_refusal, line_refusal};
 ghost use Rattle.program.specs.declared.refusal.LineRefusal.TheVariants.{Text, Table};
 
 use grammar::refusal::Refusal;
 
-// Why a line that was read is not taken.
+/// Why the table does not take a line.
 #[derive(Clone, Copy)]
 pub enum TableRefusal {
-    // the table of lines is full
+    /// The program has as many lines as it may have.
     Lines,
-    // the end does not match the innermost open block, or finds none open
+    /// The end does not match the innermost open block, or finds none open.
     End,
-    // the label was used before
+    /// Another line has opened a block of this label.
     Label,
-    // the table of blocks is full
+    /// The program has as many blocks as it may have.
     Blocks,
 }
 
-// Why a text is not taken as the next line.
+/// Why a text is not taken as the next line.
 #[derive(Clone, Copy)]
 pub enum LineRefusal {
+    /// The text is no line.
     Text(Refusal),
+    /// The table does not take it.
     Table(TableRefusal),
 }
 
@@ -41,23 +44,34 @@ impl From<TableRefusal> for LineRefusal {
     }
 }
 
+impl TableRefusal {
+    // The number by which the refusal is printed.
+    fn number(self) -> u32
+        ensures { result ≡ (table_refusal self).number }
+    {
+        match self {
+            TableRefusal::Lines => 21,
+            TableRefusal::End => 22,
+            TableRefusal::Label => 23,
+            TableRefusal::Blocks => 24,
+        }
+    }
+}
+
 impl LineRefusal {
-    // Not a From: `u32::from` would not say which number.
+    /// The number by which the refusal is printed; `u32::from` would not say which number it gives.
     pub fn number(self) -> u32
-        ensures { result ≡ line_number self }
+        ensures { result ≡ (line_refusal self).number }
     {
         match self {
             LineRefusal::Text(e) => e.cause.number(),
-            LineRefusal::Table(TableRefusal::Lines) => 21,
-            LineRefusal::Table(TableRefusal::End) => 22,
-            LineRefusal::Table(TableRefusal::Label) => 23,
-            LineRefusal::Table(TableRefusal::Blocks) => 24,
+            LineRefusal::Table(e) => e.number(),
         }
     }
 
-    // The place in the text, where the text is at fault.
+    /// The place in the text, from 0, if the text is at fault.
     pub fn place(self) -> Option<usize>
-        ensures { result ≡ line_place self }
+        ensures { result ≡ place_in (line_refusal self).detail }
     {
         match self {
             LineRefusal::Text(e) => Some(e.place),

@@ -13,10 +13,13 @@ mod entry;
 mod growth;
 mod lookup;
 
+/// How many lines a program has at most.
 pub const MAX_LINES: usize = 128;
 
+/// How many blocks a program has at most.
 pub const MAX_BLOCKS: usize = 16;
 
+/// The lines that were taken, and the blocks that they open. Nothing changes a table but its next line.
 #[derive(Clone, Copy)]
 pub struct Program {
     lines: Rack<Line, MAX_LINES>,

@@ -119,8 +119,8 @@ module _ {A : Type 0} (l : Line) (f : Symbol → Result A Cause) (q : A → Pars
   pub parses_again : (s : Symbol) → i.symbol ≡ Some s → names l s ≡ true → Parses (or_more l f q) a (Err (record { cause = Twice; place = i.place })) b
   parses_again s e h =
       let n = subst (λ s. Next (ahead a) (length a.text.now) i.place s (ahead b)) e t.next in
-      let is : or_more l f q (symbols (ahead a)) ≡ bad 15 (symbols (ahead a)) =
-      ap (λ ts. or_more l f q ts) (ap symbols n.1) ∙ ap (λ c. cond c (bad 15 (symbols (n.0 ∷ ahead b))) (after (tested (f (symbol_of n.0.bytes)) (symbol_of n.0.bytes) (symbols (ahead b))) q)) (ap (names l) (sym n.3) ∙ h) ∙ ap (λ ts. bad 15 ts) (sym (ap symbols n.1)) in
+      let is : or_more l f q (symbols (ahead a)) ≡ bad Twice (symbols (ahead a)) =
+      ap (λ ts. or_more l f q ts) (ap symbols n.1) ∙ ap (λ c. cond c (bad Twice (symbols (n.0 ∷ ahead b))) (after (tested (f (symbol_of n.0.bytes)) (symbol_of n.0.bytes) (symbols (ahead b))) q)) (ap (names l) (sym n.3) ∙ h) ∙ ap (λ ts. bad Twice ts) (sym (ap symbols n.1)) in
       record {
         same = t.same;
         past = (n.0 ∷ [], n.1);
@@ -132,5 +132,5 @@ module _ {A : Type 0} (l : Line) (f : Symbol → Result A Cause) (q : A → Pars
   parses_more s r c e h d =
       let n = subst (λ s. Next (ahead a) (length a.text.now) i.place s (ahead b)) e t.next in
       let is : or_more l f q (symbols (ahead a)) ≡ bind (expect f) q (symbols (ahead a)) =
-      ap (λ ts. or_more l f q ts) (ap symbols n.1) ∙ ap (λ c. cond c (bad 15 (symbols (n.0 ∷ ahead b))) (after (tested (f (symbol_of n.0.bytes)) (symbol_of n.0.bytes) (symbols (ahead b))) q)) (ap (names l) (sym n.3) ∙ h) ∙ ap (λ ts. bind (expect f) q ts) (sym (ap symbols n.1)) in
+      ap (λ ts. or_more l f q ts) (ap symbols n.1) ∙ ap (λ c. cond c (bad Twice (symbols (n.0 ∷ ahead b))) (after (tested (f (symbol_of n.0.bytes)) (symbol_of n.0.bytes) (symbols (ahead b))) q)) (ap (names l) (sym n.3) ∙ h) ∙ ap (λ ts. bind (expect f) q ts) (sym (ap symbols n.1)) in
       record { same = d.same; past = d.past; says = subst (λ v. Agrees v (length a.text.now) (ahead a) r (ahead c)) (sym is) d.says }

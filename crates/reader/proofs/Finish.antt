@@ -9,19 +9,22 @@ use Rattle.grammar.specs.declared.refusal.Refusal.{Refusal}
 use Rattle.grammar.specs.Combinators.{Parsed, got, bad}
 use Rattle.grammar.specs.Parser.{line}
 use Rattle.grammar.specs.Symbols.{symbols}
-use Rattle.grammar.specs.Answer.{said, read, refused, front, answered, reading, permitted, clear, answer}
+use Rattle.grammar.specs.declared.refusal.Cause.TheVariants.{Length, Byte}
+use Rattle.grammar.specs.Limits.{longest}
+use Rattle.grammar.specs.Causes.{refused}
+use Rattle.grammar.specs.Answer.{front, answered, reading, permitted, clear, short_answer, answer}
 use Rattle.lexer.specs.Lexemes.{Lexeme, lexemes, lexemes_from}
 use Rattle.reader.specs.Parses.{ahead, Agrees, Parses}
 use Rattle.grammar.proofs.Texts.{dropped}
 
-told_by : (v : Parsed Line) (end : ℕ) (ts to : List Lexeme) (r : Result Line Refusal) → Agrees v end ts r to → said r ≡ answered ts end v
-told_by (got l rest) end ts to (Ok b) s = ap read s.0
+told_by : (v : Parsed Line) (end : ℕ) (ts to : List Lexeme) (r : Result Line Refusal) → Agrees v end ts r to → r ≡ answered ts end v
+told_by (got l rest) end ts to (Ok b) s = ap Ok s.0
 told_by (got l rest) end ts to (Err e) s = absurd s
 told_by (bad k rest) end ts to (Ok b) s = absurd s
 told_by (bad k rest) end ts to (Err e) (n, (ws, (us, cut), same, at)) =
     λ i. refused (n i) ((at ∙ ap (λ l. front l end) (sym (dropped ts us ws rest cut same))) i)
 
-pub parses_reading : (a : Lexer) (r : Result Line Refusal) (b : Lexer) (text : Bor (List ℕ)) → a.at ≡ 0 → a.text ≡ text → Parses line a r b → said r ≡ reading text.now
+pub parses_reading : (a : Lexer) (r : Result Line Refusal) (b : Lexer) (text : Bor (List ℕ)) → a.at ≡ 0 → a.text ≡ text → Parses line a r b → r ≡ reading text.now
 parses_reading a r b text z e d =
     let from : ahead a ≡ lexemes text.now = λ i. lexemes_from 0 (z i) (drop (z i) (e i).now) in
     told_by (line (symbols (ahead a))) (length a.text.now) (ahead a) (ahead b) r d.says ∙ (λ i. answered (from i) (length (e i).now) (line (symbols (from i))))
@@ -35,8 +38,8 @@ first_at s None h = clear_at s None h
 first_at s (Some i) h = (clear_at s (Some i) h, h.0)
 
 -- ---- a text that passes the two tests
-pub passed : (s : List ℕ) → length s ≤ 120 → clear s ≡ length s → answer s ≡ reading s
+pub passed : (s : List ℕ) → length s ≤ longest → clear s ≡ length s → answer s ≡ reading s
 passed s h e =
-    let t : leb (length s) 120 ≡ true = grind (arith, nat_tests) in
+    let t : leb (length s) longest ≡ true = grind (arith, nat_tests) in
     let u : eqb (clear s) (length s) ≡ true = grind (arith, nat_tests) in
-    ap (λ v. cond v (cond (eqb (clear s) (length s)) (reading s) (refused 12 (clear s))) (refused 11 120)) t ∙ ap (λ v. cond v (reading s) (refused 12 (clear s))) u
+    ap (λ v. cond v (short_answer s) (refused Length longest)) t ∙ ap (λ v. cond v (reading s) (refused Byte (clear s))) u

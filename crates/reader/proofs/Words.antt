@@ -10,7 +10,7 @@ use Rattle.grammar.specs.declared.symbol.Symbol.{Symbol}
 use Rattle.grammar.specs.declared.symbol.Symbol.TheVariants.{Fixed, Digits, Long, Letter, Relation, Unknown}
 use Rattle.grammar.specs.declared.symbol.Item.{Item}
 use Rattle.grammar.specs.declared.refusal.Refusal.{Refusal}
-use Rattle.grammar.specs.declared.refusal.Cause.TheVariants.{Twice}
+use Rattle.grammar.specs.declared.refusal.Cause.TheVariants.{Unexpected, Twice}
 use Rattle.grammar.specs.Axes.{AxisValues, has, put, has_symbol, count, moved}
 use Rattle.grammar.specs.Combinators.{Parser, bad, bind, expect, or_more}
 use Rattle.grammar.specs.Tests.{axis, tried, outcome}
@@ -37,7 +37,7 @@ fewer m a v h = omega (arith, room m a h, one_less m a v h)
 
 -- ---- after an axis
 goes : ℕ → Motion → AxisValues → Axis → Parser Line
-goes zero g m a = λ ts. bad 13 ts
+goes zero g m a = λ ts. bad Unexpected ts
 goes (suc n) g m a = bind value (λ v. more n g (put m a v))
 
 more_is : (n : ℕ) (g : Motion) (m : AxisValues) → more n g m ≡ or_more (moved g m) axis (goes n g m)

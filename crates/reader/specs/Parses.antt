@@ -11,7 +11,6 @@ use Rattle.grammar.specs.Combinators.{Parsed, got, bad, Parser}
 use Rattle.grammar.specs.Symbols.{symbol_of, symbols}
 use Rattle.grammar.specs.Answer.{front}
 use Rattle.grammar.specs.Axes.{AxisValues, moved}
-use Rattle.grammar.specs.Causes.{number_of}
 use Rattle.grammar.specs.Tests.{outcome}
 use Rattle.grammar.specs.declared.refusal.Cause.{Cause}
 
@@ -27,12 +26,12 @@ Suffix ts ws = (us : List Lexeme) × (ts ≡ us ++ ws)
 abbrev pub Placed : List Lexeme → ℕ → List Symbol → ℕ → Type 0
 Placed from end rest p = (ws : List Lexeme) × Suffix from ws × (symbols ws ≡ rest) × (p ≡ front ws end)
 
--- a result and the tokens left after it are what was parsed
+-- a result and the tokens left after it are what was parsed, or the refusal is for its cause and at its place
 abbrev pub Agrees : {A : Type 0} → Parsed A → ℕ → List Lexeme → Result A Refusal → List Lexeme → Type 0
 Agrees (got a rest) end from (Ok b) to = (b ≡ a) × (symbols to ≡ rest)
 Agrees (got a rest) end from (Err e) to = ⊥
-Agrees (bad k rest) end from (Ok b) to = ⊥
-Agrees (bad k rest) end from (Err e) to = (number_of e.cause ≡ k) × Placed from end rest e.place
+Agrees (bad c rest) end from (Ok b) to = ⊥
+Agrees (bad c rest) end from (Err e) to = (e.cause ≡ c) × Placed from end rest e.place
 
 pub record Parses {A : Type 0} (p : Parser A) (a : Lexer) (r : Result A Refusal) (b : Lexer) : Type 0 where
   pub same : b.text ≡ a.text

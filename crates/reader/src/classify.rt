@@ -1,15 +1,13 @@
-// What a token is to the grammar, from its bytes.
-ghost use Rattle.std.specs.Prelude.{◌≡◌, ◌≤◌, length, slice_index};
-ghost use Rattle.std.specs.Str.Parse.{AllDigits};
-ghost use Rattle.lexer.specs.Classes.{class};
-ghost use Rattle.lexer.specs.declared.class.Class.TheVariants.{Digit};
+// What a token is to the grammar, from its kind and its bytes.
+ghost use Rattle.std.specs.Prelude.{◌≡◌};
 ghost use Rattle.reader.specs.Tables.{first_spelled};
-ghost use Rattle.grammar.specs.Symbols.{axis_of, relation_of, keyword_of, letters, mark, symbol_of};
+ghost use Rattle.grammar.specs.Symbols.{axis_of, relation_of, keyword_of, letters, symbol_of};
 
 use grammar::symbol::{Keyword, Symbol};
-use lexer::class::Class;
 use lexer::digits::number;
 use lexer::keyword::is_keyword;
+use lexer::kind::Kind;
+use lexer::token::Token;
 use model::expression::Rel;
 use model::line::Axis;
 
@@ -80,34 +78,22 @@ fn letters_of(s: &[u8]) -> Symbol
         .unwrap_or(Symbol::Unknown)
 }
 
+// What the token is.
 #[inline(always)]
-fn mark_of(b: u8) -> Symbol
-    ensures { result ≡ mark b }
+pub fn symbol_of(token: Token) -> Symbol
+    ensures { result ≡ symbol_of token.entry.part.now }
 {
-    match b {
-        b'#' => Symbol::Fixed(Keyword::Hash),
-        b'[' => Symbol::Fixed(Keyword::Open),
-        b']' => Symbol::Fixed(Keyword::Close),
-        b'+' => Symbol::Fixed(Keyword::Plus),
-        b'-' => Symbol::Fixed(Keyword::Minus),
-        b'*' => Symbol::Fixed(Keyword::Star),
-        b'=' => Symbol::Fixed(Keyword::Equals),
-        _ => Symbol::Unknown,
-    }
-}
-
-// What the token s is; one that begins with a digit has digits only.
-#[inline(always)]
-pub fn symbol_of(s: &[u8]) -> Symbol
-    requires in_bounds { 1 ≤ length s.now }
-    requires all_digits { class (slice_index s.now 0) ≡ Digit → AllDigits 10 s.now }
-    ensures { result ≡ symbol_of s.now }
-{
-    match Class::from(s[0]) {
-        Class::Letter => letters_of(s),
-        Class::Digit if s.len() <= 8 => Symbol::Digits(number(s)),
-        Class::Digit => Symbol::Long,
-        Class::Mark => mark_of(s[0]),
-        Class::Blank => Symbol::Unknown,
+    match token.kind {
+        Kind::Letters => letters_of(token.part),
+        Kind::Digits if token.part.len() <= 8 => Symbol::Digits(number(token.part)),
+        Kind::Digits => Symbol::Long,
+        Kind::Hash => Symbol::Fixed(Keyword::Hash),
+        Kind::Open => Symbol::Fixed(Keyword::Open),
+        Kind::Close => Symbol::Fixed(Keyword::Close),
+        Kind::Plus => Symbol::Fixed(Keyword::Plus),
+        Kind::Minus => Symbol::Fixed(Keyword::Minus),
+        Kind::Star => Symbol::Fixed(Keyword::Star),
+        Kind::Equals => Symbol::Fixed(Keyword::Equals),
+        Kind::Other => Symbol::Unknown,
     }
 }

@@ -4,7 +4,7 @@
 
 ghost use Rattle.std.specs.Prelude.{◌≡◌, ◌<◌, length, MatchOption};
 ghost use Rattle.std.specs.List.{list_all};
-ghost use Rattle.grammar.specs.Answer.{said, answer, permitted, clear};
+ghost use Rattle.grammar.specs.Answer.{answer, permitted, clear};
 ghost use Rattle.grammar.specs.Law.{TheAnswer};
 
 use crate::reader::Reader;
@@ -17,7 +17,7 @@ mod expect;
 mod reader;
 mod term;
 
-// The longest text of a line, in bytes.
+/// The length of the longest text that is read, in bytes.
 pub const MAX_TEXT: usize = 120;
 
 fn allowed(b: u8) -> bool
@@ -43,10 +43,13 @@ fn first_forbidden(text: &[u8]) -> Option<usize>
     text.iter().position(|&b| !allowed(b))
 }
 
-// The stored line that the text is, or why and where it is refused: the one answer that the grammar gives.
+/// The line that the text is: the one answer that the grammar gives.
+///
+/// Refused are a text longer than `MAX_TEXT`, at `MAX_TEXT`; one with a byte that no text may hold, at the first such byte; and one that
+/// is no line, at the first token with which no line goes on, or at its end.
 pub fn read(text: &[u8]) -> Result<Line, Refusal>
-    ensures law { TheAnswer text.now (said result) }
-    ensures is { said result ≡ answer text.now }
+    ensures law { TheAnswer text.now result }
+    ensures is { result ≡ answer text.now }
 {
     if text.len() > MAX_TEXT {
         return Err(Refusal {

@@ -42,7 +42,7 @@ impl<'a> Reader<'a> {
             },
             Some(t) => Item {
                 place: t.place,
-                symbol: Some(symbol_of(t.part)),
+                symbol: Some(symbol_of(t)),
             },
         };
         self.lexer = lexer;

@@ -5,7 +5,8 @@ ghost use Rattle.model.specs.Blocks.{role_of, open_blocks, labels};
 ghost use Rattle.model.specs.Written.{WrittenLine};
 ghost use Rattle.program.specs.Agree.{Last, no_block};
 ghost use Rattle.program.specs.Held.{held, held_blocks};
-ghost use Rattle.program.specs.Refusals.{max_lines, same_kind, fits, role_answer, push_answer, pushed};
+ghost use Rattle.program.specs.Limits.{max_lines};
+ghost use Rattle.program.specs.Refusals.{same_kind, fits, role_answer, push_answer, pushed};
 
 use crate::rack::Rack;
 use crate::refusal::TableRefusal;
@@ -35,6 +36,7 @@ fn is_ended_by(block: Block, kind: BlockKind, label: u16) -> bool
 }
 
 impl Program {
+    /// A program without a line.
     pub fn new() -> Program
         ensures { held result ≡ [] }
     {

@@ -4,13 +4,14 @@ ghost use Rattle.model.specs.Blocks.{labels, block_number, block_of, closed};
 ghost use Rattle.model.specs.Programs.{Closed};
 ghost use Rattle.program.specs.Agree.{Last};
 ghost use Rattle.program.specs.Held.{held, held_blocks};
-ghost use Rattle.program.specs.Refusals.{max_lines};
+ghost use Rattle.program.specs.Limits.{max_lines};
 
 use crate::table::Program;
 use model::block::Block;
 use model::line::Line;
 
 impl Program {
+    /// The lines, in the order in which they were taken.
     pub fn lines(&self) -> &[Line]
         ensures { result.now ≡ held self.now }
     {
@@ -24,13 +25,14 @@ impl Program {
         self.lines.is_full()
     }
 
+    /// How many blocks the lines open.
     pub fn block_count(&self) -> usize
         ensures { result ≡ length (labels (held self.now)) }
     {
         self.blocks.len()
     }
 
-    // The number of the block that has the label, from 0.
+    /// The number of the block that has the label, from 0 in the order in which they open; none if no line opens such a block.
     pub fn block_number(&self, label: u16) -> Option<usize>
         ensures is { result ≡ block_number (held self.now) label }
         ensures within { IfSome result (λ i. i < length (labels (held self.now))) }
@@ -41,7 +43,7 @@ impl Program {
             .position(|block| block.label == label)
     }
 
-    // The block that has the label: its kind, its condition, and the numbers of its lines.
+    /// The block that has the label: its kind, its condition, and the numbers of its lines, from 1; none if no line opens such a block.
     pub fn block(&self, label: u16) -> Option<Block>
         ensures { result ≡ block_of (held self.now) label }
     {
@@ -59,7 +61,7 @@ impl Program {
             .rposition(|block| block.end.is_none())
     }
 
-    // Whether no block is open. Then the blocks are nested, and each has its end.
+    /// Whether no block is open. Then the blocks are nested, and each has its end.
     pub fn is_closed(&self) -> bool
         ensures is { result ≡ closed (held self.now) }
         ensures closed { result ≡ true → Closed (held self.now) }

@@ -1,13 +1,15 @@
-use Rattle.std.proofs.Common.{◌≡◌, ℕ, List, sym, ◌∙◌, subst, arith}
-use Rattle.grammar.specs.Answer.{Answer, answer}
+use Rattle.std.proofs.Common.{◌≡◌, ℕ, List, Result, sym, ◌∙◌, subst, arith}
+use Rattle.model.specs.declared.line.Line.{Line}
+use Rattle.grammar.specs.declared.refusal.Refusal.{Refusal}
+use Rattle.grammar.specs.Answer.{answer}
 use Rattle.grammar.specs.Law.{TheAnswer}
 use Rattle.grammar.proofs.Texts.{long_answer, byte_answer}
 use Rattle.grammar.proofs.Unique.{the_answer}
 use Rattle.reader.proofs.Finish.{parses_reading, passed}
 use Rattle.reader.proofs.read.Goals as goal
 
-lawful : (s : List ℕ) (a : Answer) → a ≡ answer s → TheAnswer s a
-lawful s a e = subst (TheAnswer s) (sym e) (the_answer s)
+lawful : (s : List ℕ) (r : Result Line Refusal) → r ≡ answer s → TheAnswer s r
+lawful s r e = subst (TheAnswer s) (sym e) (the_answer s)
 
 pub returns-then-text-gt-MAX_TEXT : goal.returns-then-text-gt-MAX_TEXT
 returns-then-text-gt-MAX_TEXT c =

@@ -6,7 +6,7 @@ use crate::reader::Reader;
 use crate::{expect, term};
 use grammar::refusal::Refusal;
 use grammar::symbol::{Keyword, TermStart, ValueStart};
-use model::expression::{Condition, Expression, LIMIT, Term, Value};
+use model::expression::{Condition, LIMIT, Term, Value};
 
 impl<'a> Reader<'a> {
     // The law of the grammar splits by what begins, so no closure stands for what follows.
@@ -40,9 +40,7 @@ impl<'a> Reader<'a> {
         let o = self.expect(expect::operator)?;
         let b = self.term()?;
         self.keyword(Keyword::Close)?;
-        Ok(Value {
-            expression: Expression::Apply(o, a, b),
-        })
+        Ok(Value::Joined(o, a, b))
     }
 
     fn value_rest(&mut self, start: ValueStart) -> Result<Value, Refusal>
@@ -50,9 +48,7 @@ impl<'a> Reader<'a> {
     {
         match start {
             ValueStart::Opens => self.bracket(),
-            ValueStart::Begins(first) => self.term_rest(first).map(|t| Value {
-                expression: Expression::Bare(t),
-            }),
+            ValueStart::Begins(first) => self.term_rest(first).map(Value::Term),
         }
     }
 
