@@ -1,5 +1,5 @@
 -- A step of the code is a step of the plain run, in a closed program.
-use Rattle.std.proofs.Common.{◌≡◌, ℕ, suc, ◌+◌, ◌<◌, ◌≤◌, Bool, true, false, cond, ◌&&◌, ltb, List, length, get_or, set, ℤ, Some, None, Option, sym, refl, ap, ◌∙◌, subst, arith}
+use Rattle.std.proofs.Common.{◌≡◌, ℕ, suc, ◌+◌, ◌<◌, ◌≤◌, Bool, true, false, cond, ◌&&◌, ltb, List, length, get_or, set, ℤ, Some, None, Option, Result, sym, refl, ap, ◌∙◌, subst, arith}
 use Rattle.std.proofs.lemmas.Bool.Decides.{nat_tests}
 use Rattle.model.specs.declared.block.Block.{Block}
 use Rattle.model.specs.declared.block.BlockKind.TheVariants.{While as WhileBlock, If as IfBlock}
@@ -18,11 +18,12 @@ use Rattle.model.proofs.Stepping.{while_end, if_end, end_while}
 use Rattle.model.proofs.Found.{block_found, end_found}
 use Rattle.runner.specs.declared.run.Stepped.{Stepped}
 use Rattle.runner.specs.declared.run.Stepped.TheVariants.{WentOn, Fault}
+use Rattle.runner.specs.declared.run.NoRun.{NoRun}
 use Rattle.runner.specs.declared.run.Run.{Run}
-use Rattle.runner.specs.Steps.{worked, set_if, by_end, behind, first, Went, went, given, commanded, over, by_place, step_of}
+use Rattle.runner.specs.Steps.{worked, set_if, by_end, behind, first, Went, gone, went, given, commanded, over, by_place, step_of}
 use Rattle.runner.specs.Plain.{LeadsOn, From, PlainStep}
 
-abbrev Leads : List Line → ℕ → Env → Went → Type 0
+abbrev Leads : List Line → ℕ → Env → Went Stepped → Type 0
 Leads lines i e w = LeadsOn lines i e w.answer w.run
 
 module _ (lines : List Line) (closed : Closed lines) (i : ℕ) (e : Env) where
@@ -141,8 +142,8 @@ module _ (lines : List Line) (closed : Closed lines) (i : ℕ) (e : Env) where
   at_leads false h = (refl, let k : length lines ≤ i = grind (arith, nat_tests) in k)
 
 by_run : (lines : List Line) (r : Run) (o : Option ℕ) → Closed lines → let w = by_place lines r o in From lines r o w.answer w.run
-by_run lines r None c = (refl, refl)
+by_run lines r None c = refl
 by_run lines r (Some i) c = at_leads lines c i r.registers (ltb i (length lines)) refl
 
-pub plain_step : (lines : List Line) (r : Run) (s : Stepped) (t : Run) → record { answer = s; run = t } ≡ step_of lines r → Closed lines → PlainStep lines r s t
-plain_step lines r s t e c = subst (λ (w : Went). PlainStep lines r w.answer w.run) (sym e) (by_run lines r r.at c)
+pub plain_step : (lines : List Line) (r : Run) (s : Result Stepped NoRun) (t : Run) → gone t s ≡ step_of lines r → Closed lines → PlainStep lines r s t
+plain_step lines r s t e c = subst (λ (w : Went (Result Stepped NoRun)). PlainStep lines r w.answer w.run) (sym e) (by_run lines r r.at c)

@@ -1,10 +1,11 @@
 -- What a step of the code is, in the words of the plain run.
-use Rattle.std.specs.Prelude.{◌≡◌, ℕ, ◌≤◌, List, length, replicate, pos, Some, None, Option}
+use Rattle.std.specs.Prelude.{◌≡◌, ℕ, ◌≤◌, List, length, replicate, pos, Some, None, Ok, Err, Option, Result}
 use Rattle.model.specs.declared.line.Line.{Line}
 use Rattle.model.specs.Environments.{Env, position, registers}
 use Rattle.model.specs.Runs.{goes, commands, faults, Steps}
 use Rattle.runner.specs.declared.run.Stepped.{Stepped}
 use Rattle.runner.specs.declared.run.Stepped.TheVariants.{WentOn, Commanded, Ended, Fault}
+use Rattle.runner.specs.declared.run.NoRun.{NoRun}
 use Rattle.runner.specs.declared.run.Run.{Run}
 
 -- where no run goes
@@ -22,9 +23,12 @@ LeadsOn lines i e (Commanded p) t = (j : ℕ) × (t ≡ run_at j t.registers) ×
 LeadsOn lines i e Ended t = (t ≡ run_at i e) × (length lines ≤ i)
 LeadsOn lines i e Fault t = (t ≡ run_at i e) × Steps lines i e faults
 
-abbrev pub From : List Line → Run → Option ℕ → Stepped → Run → Type 0
-From lines r None s t = (s ≡ Ended) × (t ≡ r)
-From lines r (Some i) s t = LeadsOn lines i r.registers s t
+-- a step is refused where no run goes, and nowhere else
+abbrev pub From : List Line → Run → Option ℕ → Result Stepped NoRun → Run → Type 0
+From lines r None (Ok s) t = ⊥
+From lines r None (Err e) t = t ≡ r
+From lines r (Some i) (Ok s) t = LeadsOn lines i r.registers s t
+From lines r (Some i) (Err e) t = ⊥
 
-abbrev pub PlainStep : List Line → Run → Stepped → Run → Type 0
+abbrev pub PlainStep : List Line → Run → Result Stepped NoRun → Run → Type 0
 PlainStep lines r s t = From lines r r.at s t

@@ -1,19 +1,18 @@
 // A run: the line it stands at, and its registers.
 ghost use Rattle.std.specs.Prelude.{◌≡◌, ◌+◌, ◌^◌, ◌<◌, length, if◌then◌else◌, Some};
-ghost use Rattle.std.specs.Option.{option_map};
 ghost use Rattle.model.specs.Blocks.{block_of};
 ghost use Rattle.model.specs.Environments.{position};
 ghost use Rattle.model.specs.Sides.{axis_register};
 ghost use Rattle.model.specs.Programs.{Closed};
 ghost use Rattle.model.specs.Values.{holds};
 ghost use Rattle.program.specs.Held.{held};
-ghost use Rattle.runner.specs.Drying.{start, number, is_past};
+ghost use Rattle.runner.specs.Drying.{start, number};
 ghost use Rattle.runner.specs.Plain.{no_run, run_at, PlainStep};
-ghost use Rattle.runner.specs.Steps.{worked, set_if, moved, line_under, behind, first, went, gone, commanded, step_of};
+ghost use Rattle.runner.specs.Steps.{worked, set_if, assigned, moved, behind, first, went, gone, commanded, step_of};
 
 use crate::value::{meets, value};
 use model::axes::{Axes, Position};
-use model::expression::{Condition, Value};
+use model::expression::{Condition, Parameter, Value};
 use model::line::{Axis, Line};
 use model::register::{PARAMETERS, REGISTERS, Register};
 use program::table::Program;
@@ -24,6 +23,10 @@ pub struct Run {
     pub at: Option<usize>,
     registers: [i32; REGISTERS],
 }
+
+/// Why a run makes no step: none goes.
+#[derive(Clone, Copy)]
+pub struct NoRun;
 
 // A fault is an answer like the others: a plain run's step has it as an outcome, and clauses and dry runs match on all four.
 #[derive(Clone, Copy)]
@@ -83,20 +86,12 @@ impl Run {
         }
     }
 
-    // The number of the line under the run, from 1; 0 where there is no run. No Option: a step without a run cannot fail, so that 0 is
-    // never told.
-    pub fn line_number(&self, program: &Program) -> usize
+    /// The number of the line under the run, from 1; none past the last line, and where no run goes.
+    pub fn line_number(&self, program: &Program) -> Option<usize>
         ensures { result ≡ number (held program.now) self.now.at }
     {
-        let count = program.lines().len();
-        self.at.map_or(0, |n| if n < count { n + 1 } else { count })
-    }
-
-    // Whether the run is past the last line.
-    pub fn is_past(&self, program: &Program) -> bool
-        ensures { result ≡ is_past (held program.now) self.now.at }
-    {
-        self.at.is_none_or(|n| program.lines().len() <= n)
+        let n = self.at?;
+        (n < program.lines().len()).then(|| n + 1)
     }
 
     fn position(&self) -> Position
@@ -131,6 +126,19 @@ impl Run {
     {
         self.at = Some(n);
         Stepped::WentOn
+    }
+
+    // A setting at line n gives the parameter its result.
+    fn set(&mut self, n: usize, parameter: Parameter, v: Value) -> Stepped
+        requires at { self.old.at ≡ Some n }
+        requires room { n + 1 < 2 ^ 64 }
+        ensures { gone self.new result ≡ assigned n self.old.registers parameter v }
+    {
+        let Some(x) = value(&self.registers, v) else {
+            return Stepped::Fault;
+        };
+        self.registers[Register::from(parameter).index] = x;
+        self.go(n + 1)
     }
 
     // A block line leads on where its condition holds, else behind its block.
@@ -172,54 +180,30 @@ impl Run {
         self.travel(n + 1, Axes { x, y, z, u })
     }
 
-    // The line under the run.
-    fn line_under<'a>(&self, program: &'a Program) -> Option<&'a Line>
-        ensures { option_map (λ line. line.now) result ≡ line_under (held program.now) self.now.at }
-    {
-        program.lines().get(self.at?)
-    }
-
-    // What a step does and answers goes by where the run is and by the line there together.
+    /// One step over the line under the run; in a closed program it is that of the plain run. Refused where no run goes.
+    // Inlined, so that the answer is made where it is read.
     #[inline(always)]
-    fn advance(&mut self, program: &Program) -> Stepped
-        ensures { gone self.new result ≡ step_of (held program.now) self.old }
-    {
-        match (self.at, self.line_under(program)) {
-            (Some(n), Some(Line::Plain | Line::EndIf { .. })) => self.go(n + 1),
-            (
-                Some(n),
-                Some(
-                    Line::Setting {
-                        parameter,
-                        value: v,
-                    },
-                ),
-            ) => {
-                let Some(x) = value(&self.registers, *v) else {
-                    return Stepped::Fault;
-                };
-                self.registers[Register::from(*parameter).index] = x;
-                self.go(n + 1)
-            }
-            (Some(n), Some(Line::Move { x, y, z, u, .. })) => self.carry(n, x, y, z, u),
-            // Tried: one arm for both kinds leaves the proof without which line it is.
-            (Some(n), Some(Line::While { label, condition })) => {
-                self.turn(program, n + 1, *label, condition)
-            }
-            (Some(n), Some(Line::If { label, condition })) => {
-                self.turn(program, n + 1, *label, condition)
-            }
-            (Some(_), Some(Line::EndWhile { label })) => self.go(first(program, *label)),
-            (_, _) => Stepped::Ended,
-        }
-    }
-
-    // One step over the line under the run; in a closed program it is that of the plain run. Inlined, so that the answer is made where it is read.
-    #[inline(always)]
-    pub fn step(&mut self, program: &Program) -> Stepped
+    #[tactic(auto, using(crate::proofs::Stepped::plain_step))]
+    pub fn step(&mut self, program: &Program) -> Result<Stepped, NoRun>
         ensures is { gone self.new result ≡ step_of (held program.now) self.old }
         ensures plain { Closed (held program.now) → PlainStep (held program.now) self.old result self.new }
     {
-        self.advance(program)
+        let Some(n) = self.at else {
+            return Err(NoRun);
+        };
+        match (self, program.lines().get(n)) {
+            (run, Some(Line::Plain)) => Ok(run.go(n + 1)),
+            (run, Some(Line::Setting { parameter, value })) => Ok(run.set(n, *parameter, *value)),
+            (run, Some(Line::Move { x, y, z, u, .. })) => Ok(run.carry(n, x, y, z, u)),
+            (run, Some(Line::While { label, condition })) => {
+                Ok(run.turn(program, n + 1, *label, condition))
+            }
+            (run, Some(Line::If { label, condition })) => {
+                Ok(run.turn(program, n + 1, *label, condition))
+            }
+            (run, Some(Line::EndIf { .. })) => Ok(run.go(n + 1)),
+            (run, Some(Line::EndWhile { label })) => Ok(run.go(first(program, *label))),
+            (_, None) => Ok(Stepped::Ended),
+        }
     }
 }

@@ -1,31 +1,33 @@
 // Values and conditions at the registers of a run.
 ghost use Rattle.std.specs.Prelude.{◌≡◌};
-ghost use Rattle.model.specs.Values.{term, evaluate, holds};
+ghost use Rattle.model.specs.Values.{number, term, evaluate, holds};
 ghost use Rattle.runner.specs.Steps.{value_of};
 
-use model::expression::{Condition, Expression, Term, Value};
+use model::expression::{Condition, Expression, Operand, Term, Value};
 use model::range::fits;
-use model::register::{REGISTERS, Register};
+use model::register::REGISTERS;
+
+fn number(registers: &[i32; REGISTERS], operand: Operand) -> i32
+    ensures { result ≡ number registers.now operand }
+{
+    match operand {
+        Operand::Number(n) => n,
+        Operand::Register(r) => registers[r.index],
+    }
+}
 
 fn term(registers: &[i32; REGISTERS], t: Term) -> i32
     ensures { result ≡ term registers.now t }
 {
-    match t {
-        Term::Number(n) => n,
-        Term::Parameter(p) => registers[Register::from(p).index],
-    }
+    number(registers, t.into())
 }
 
 fn evaluate(registers: &[i32; REGISTERS], x: Expression) -> i64
     ensures { result ≡ evaluate registers.now x }
 {
     match x {
-        Expression::Bare(t) => term(registers, t) as i64,
-        Expression::Apply(op, a, b) => {
-            let left = term(registers, a) as i64;
-            let right = term(registers, b) as i64;
-            op.apply(left, right)
-        }
+        Expression::Bare(x) => number(registers, x) as i64,
+        Expression::Apply(op, x, y) => op.apply(number(registers, x), number(registers, y)),
     }
 }
 
@@ -33,7 +35,7 @@ fn evaluate(registers: &[i32; REGISTERS], x: Expression) -> i64
 pub fn value(registers: &[i32; REGISTERS], v: Value) -> Option<i32>
     ensures { result ≡ value_of registers.now v }
 {
-    let n = evaluate(registers, v.expression);
+    let n = evaluate(registers, v.into());
     fits(n).then(|| n as i32)
 }
 

@@ -3,6 +3,7 @@ use Rattle.std.specs.Prelude.{◌≡◌, Bool, true, false, ◌&&◌, List, [], 
 use Rattle.model.specs.Limits.{limit}
 use Rattle.model.specs.declared.line.Axis.TheVariants.{X, U}
 use Rattle.model.specs.Axes.{Position}
+use Rattle.model.specs.Envelopes.{Envelope}
 use Rattle.model.specs.declared.axes.Ends.{Ends}
 use Rattle.model.specs.declared.side.Sign.TheVariants.{Plus}
 use Rattle.model.specs.declared.side.Factor.TheVariants.{Minus}
@@ -34,3 +35,7 @@ beam_sides b = gantry_sides b.base ++ (gap_side b.gap ∷ [])
 
 abbrev pub BeamRegion : Beam → Position → Type 0
 BeamRegion b p = GantryRegion b.base p × ((p.x +ℤ b.gap) ≤ℤ p.u)
+
+-- where a beam may be, its sides and its home
+abbrev pub beam_envelope : Beam → Envelope
+beam_envelope b = record { region = BeamRegion b; sides = beam_sides b; home = b.base.ends.home }

@@ -4,6 +4,7 @@ use Rattle.model.specs.Limits.{limit}
 use Rattle.model.specs.declared.line.Axis.{Axis}
 use Rattle.model.specs.declared.line.Axis.TheVariants.{X, Y, Z, U}
 use Rattle.model.specs.Axes.{Position}
+use Rattle.model.specs.Envelopes.{Envelope}
 use Rattle.model.specs.declared.axes.Ends.{Ends}
 use Rattle.model.specs.declared.side.Sign.{Sign}
 use Rattle.model.specs.declared.side.Sign.TheVariants.{Plus, Minus}
@@ -57,6 +58,10 @@ gantry_sides g =
 
 abbrev pub GantryRegion : Gantry → Position → Type 0
 GantryRegion g p = Between g.ends.lower p g.ends.upper
+
+-- where a gantry may be, its sides and its home
+abbrev pub gantry_envelope : Gantry → Envelope
+gantry_envelope g = record { region = GantryRegion g; sides = gantry_sides g; home = g.ends.home }
 
 abbrev pub lies_in : ℤ → ℤ → ℤ → Bool
 lies_in lo n hi = int_le lo n && int_le n hi

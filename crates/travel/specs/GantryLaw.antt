@@ -4,9 +4,10 @@ use Rattle.std.proofs.Common.{arith, lit≤}
 use Rattle.std.proofs.lemmas.Int.{ints}
 use Rattle.model.specs.declared.line.Axis.{Axis}
 use Rattle.model.specs.declared.line.Axis.TheVariants.{X, Y, Z, U}
+use Rattle.model.specs.Sides.{Proper}
 use Rattle.travel.specs.declared.gantry.Gantry.{Gantry}
-use Rattle.travel.specs.Travels.{Within, Ordered, Limited, Proper, Lawful}
-use Rattle.travel.specs.Gantries.{other_axis, at_most, at_least, gantry_sides, GantryRegion}
+use Rattle.travel.specs.Travels.{Within, Ordered, Limited, Lawful}
+use Rattle.travel.specs.Gantries.{other_axis, at_most, at_least, gantry_envelope}
 
 held : (lo n hi : ℤ) → Within lo n hi → ((n +ℤ pos 0) ≤ℤ hi) × ((neg_ℤ n +ℤ pos 0) ≤ℤ neg_ℤ lo)
 held lo n hi h = (omega (arith, ints), omega (arith, ints))
@@ -25,11 +26,11 @@ different U e = let z : ◌≡◌ {A = ℕ} 0 1 = cc in omega arith
 
 both_proper : (v : Axis) (lo home hi : ℤ) → Ordered lo home hi → Proper (at_most v hi) × Proper (at_least v lo)
 both_proper v lo home hi h = (
-  record { axes = different v; bound = (omega (arith, ints), omega (arith, ints)) },
-  record { axes = different v; bound = (omega (arith, ints), omega (arith, ints)) },
+  record { axes = different v; low = omega (arith, ints); high = omega (arith, ints) },
+  record { axes = different v; low = omega (arith, ints); high = omega (arith, ints) },
 )
 
-pub gantry_lawful : (g : Gantry) → Lawful (GantryRegion g) (gantry_sides g) g.ends.home
+pub gantry_lawful : (g : Gantry) → Lawful (gantry_envelope g)
 gantry_lawful g =
     let x = both_proper X _ _ _ g.x in
     let y = both_proper Y _ _ _ g.y in

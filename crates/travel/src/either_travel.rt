@@ -8,11 +8,7 @@ use model::axes::Position;
 use model::side::Side;
 
 impl<A: Travel, B: Travel> Travel for Either<A, B> {
-    ghost region = { either A.Travel.region B.Travel.region };
-
-    ghost sides = { either A.Travel.sides B.Travel.sides };
-
-    ghost origin = { either A.Travel.origin B.Travel.origin };
+    ghost envelope = { either A.Travel.envelope B.Travel.envelope };
 
     ghost lawful = { elim [ Left a ↦ A.Travel.lawful a | Right b ↦ B.Travel.lawful b ] };
 

@@ -9,15 +9,12 @@ use model::side::{Side, sum_at_most};
 pub fn holds(side: Side, p: Position) -> bool
     ensures { result ≡ kept p side }
 {
-    let v = p.get(side.v) as i64;
-    let w = p.get(side.w) as i64;
-    sum_at_most(side.a, v, side.b, w, side.c)
+    sum_at_most(side.a, p.get(side.v), side.b, p.get(side.w), side.c)
 }
 
-// The loop goes through numbers, for a travel need not hold its sides in a slice. It stays beside the sweep's, which a rule wants
-// written out where the sweep is read.
+// By number, for a travel need not hold its sides in a slice.
 pub fn lowest_broken<T: Travel>(travel: &T, p: Position) -> Option<usize>
-    ensures { result ≡ lowest (kept p) 0 (T.sides travel.now) }
+    ensures { result ≡ lowest (kept p) 0 (T.envelope travel.now).sides }
 {
     for n in 0..travel.side_count() {
         if !holds(travel.side(n)?, p) {

@@ -1,5 +1,5 @@
 // The travel of a beam: the sides of its gantry, and one for the gap.
-ghost use Rattle.travel.specs.Beams.{beam_sides, BeamRegion};
+ghost use Rattle.travel.specs.Beams.{beam_envelope};
 ghost use Rattle.travel.specs.BeamLaw.{beam_lawful};
 
 use crate::beam::Beam;
@@ -10,11 +10,7 @@ use model::line::Axis;
 use model::side::{Factor, Side, Sign};
 
 impl Travel for Beam {
-    ghost region = { BeamRegion };
-
-    ghost sides = { beam_sides };
-
-    ghost origin = { λ b. b.base.ends.home };
+    ghost envelope = { beam_envelope };
 
     ghost lawful = { λ b. beam_lawful b };
 

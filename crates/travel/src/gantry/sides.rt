@@ -2,7 +2,7 @@
 ghost use Rattle.std.specs.Prelude.{◌≡◌};
 ghost use Rattle.model.specs.Axes.{along};
 ghost use Rattle.travel.specs.Gantries.{other_axis, bound, at_most, at_least, gantry_sides};
-ghost use Rattle.travel.specs.Gantries.{GantryRegion, lies_in, inside_ends};
+ghost use Rattle.travel.specs.Gantries.{gantry_envelope, lies_in, inside_ends};
 ghost use Rattle.travel.specs.GantryLaw.{gantry_lawful};
 
 use crate::gantry::Gantry;
@@ -82,11 +82,7 @@ impl Gantry {
 }
 
 impl Travel for Gantry {
-    ghost region = { GantryRegion };
-
-    ghost sides = { gantry_sides };
-
-    ghost origin = { λ g. g.ends.home };
+    ghost envelope = { gantry_envelope };
 
     ghost lawful = { λ g. gantry_lawful g };
 

@@ -7,5 +7,5 @@ use Rattle.runner.proofs.dry.dry.Given as goal
 
 abbrev pub invariant-loop-k : goal.invariant-loop-k
 invariant-loop-k g l =
-    (dried (held l.program) (g.T.Travel.sides l.travel) l.steps l.initial.run ≡ dried (held l.program) (g.T.Travel.sides l.travel) (l.steps - l.k) l.run)
-    × (Closed (held l.program) → UnderWay (held l.program) (g.T.Travel.sides l.travel) l.steps (l.steps - l.k) l.initial.run.registers l.run)
+    (dried (held l.program) (g.T.Travel.envelope l.travel) l.steps l.initial.run ≡ dried (held l.program) (g.T.Travel.envelope l.travel) (l.steps - l.k) l.run)
+    × (Closed (held l.program) → UnderWay (held l.program) (g.T.Travel.envelope l.travel) l.steps (l.steps - l.k) l.initial.run.registers l.run)

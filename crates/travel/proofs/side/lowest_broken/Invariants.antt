@@ -5,4 +5,4 @@ use Rattle.travel.proofs.side.lowest_broken.Given as goal
 
 abbrev pub invariant-loop-n : goal.invariant-loop-n
 invariant-loop-n g l =
-    lowest (kept l.p) 0 (g.T.Travel.sides l.travel) ≡ lowest (kept l.p) l.n (drop l.n (g.T.Travel.sides l.travel))
+    lowest (kept l.p) 0 (g.T.Travel.envelope l.travel).sides ≡ lowest (kept l.p) l.n (drop l.n (g.T.Travel.envelope l.travel).sides)
