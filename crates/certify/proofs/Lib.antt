@@ -1,3 +1,4 @@
 pub mod Walks
+pub mod Copies
 pub mod Sweeping
 pub mod Verdicts

@@ -1,9 +1,9 @@
--- The numbers under which certify refuses.
-use Rattle.std.specs.Prelude.{ℕ}
+-- The number of each refusal of certify, with what it carries.
+use Rattle.model.specs.Refusals.{Told, told, nothing, failure}
 use Rattle.certify.specs.declared.refusal.CertifyRefusal.{CertifyRefusal}
 use Rattle.certify.specs.declared.refusal.CertifyRefusal.TheVariants.{Open, Store, Uncertified}
 
-abbrev pub certify_number : CertifyRefusal → ℕ
-certify_number Open = 31
-certify_number Store = 32
-certify_number (Uncertified f) = 33
+abbrev pub certify_refusal : CertifyRefusal → Told
+certify_refusal Open = told 31 nothing
+certify_refusal Store = told 32 nothing
+certify_refusal (Uncertified f) = told 33 (failure f)

@@ -1,6 +1,5 @@
 // The axes of a move, in register order, and the sides of the travel, in their order.
-ghost use Rattle.std.specs.Prelude.{◌≡◌, ◌<◌, None, slice_index_or};
-ghost use Rattle.model.specs.Environments.{axes, full};
+ghost use Rattle.std.specs.Prelude.{◌≡◌};
 ghost use Rattle.model.specs.Sides.{lowest};
 ghost use Rattle.sweep.specs.Sweeps.{set_one, set_all, sure_one, all_sure, hull_with, hulls_with};
 
@@ -8,55 +7,54 @@ use domain::domain::Domain;
 use model::expression::Value;
 use model::range::{FULL, Range};
 use model::register::{AXES, Register};
-use std::array;
-use travel::travel::Travel;
+use model::side::Side;
 
 // A value that is there does not fault.
-fn is_sure<D: Domain>(state: &D, value: &Option<Value>) -> bool
-    ensures { result ≡ sure_one D.lattice state.now value.now }
+fn is_sure<D: Domain>(state: &D, value: Option<Value>) -> bool
+    ensures { result ≡ sure_one D.lattice state.now value }
 {
     match value {
         None => true,
-        Some(v) => state.sure(&v.expression),
+        Some(v) => state.sure(&v.into()),
     }
 }
 
-// None of the values faults.
+// Whether no value faults, each judged at the same state.
 pub(crate) fn all_sure<D: Domain>(state: &D, values: &[Option<Value>; AXES]) -> bool
     ensures { result ≡ all_sure D.lattice state.now values.now }
 {
-    values.iter().all(
-        |value|
-            ensures { result ≡ sure_one D.lattice state.entry.now value.now }
-        { is_sure(state, value) },
-    )
+    for value in values.iter().copied() {
+        if !is_sure(state, value) {
+            return false;
+        }
+    }
+    true
 }
 
-fn set_axis<D: Domain>(state: &mut D, register: Register, value: &Option<Value>)
-    ensures { state.new ≡ set_one D.lattice register.index value.now state.old }
+fn set_axis<D: Domain>(state: &mut D, register: Register, value: Option<Value>)
+    ensures { state.new ≡ set_one D.lattice register.index value state.old }
 {
     if let Some(v) = value {
-        state.set(register, &v.expression);
+        state.set(register, &v.into());
     }
 }
 
-// The axes take those of the values that are there, in register order: a sweep's loops keep their index.
+// The axes take those of the values that are there, in register order.
 pub(crate) fn set_axes<D: Domain>(state: &mut D, values: &[Option<Value>; AXES])
     ensures { state.new ≡ set_all D.lattice 0 values.now state.old }
 {
-    for (index, value) in values.iter().enumerate() {
+    for (index, value) in values.iter().copied().enumerate() {
         set_axis(state, Register { index }, value);
     }
 }
 
-// The lowest side that the state does not show. A sweep goes through the sides in a loop of its own, as it does through axes and lines.
-pub(crate) fn lowest_unshown<D: Domain, T: Travel>(state: &D, travel: &T) -> Option<usize>
-    ensures { result ≡ lowest (D.lattice.shows state.now) 0 (T.sides travel.now) }
+// The number of the lowest side that the state does not show.
+pub(crate) fn lowest_unshown<D: Domain>(state: &D, sides: &[Side]) -> Option<usize>
+    ensures { result ≡ lowest (D.lattice.shows state.now) 0 sides.now }
 {
-    for n in 0..travel.side_count() {
-        let side = travel.side(n)?;
+    for (number, side) in sides.iter().copied().enumerate() {
         if !state.shows(side) {
-            return Some(n);
+            return Some(number);
         }
     }
     None
@@ -69,25 +67,21 @@ fn hull_with(hull: Option<Range>, range: Range) -> Option<Range>
     if range.is_empty() {
         return hull;
     }
-    Some(hull.map_or(
-        range,
-        |before| Range {
+    match hull {
+        None => Some(range),
+        Some(before) => Some(Range {
             lo: before.lo.min(range.lo),
             hi: before.hi.max(range.hi),
-        },
-    ))
+        }),
+    }
 }
 
-pub(crate) fn hulls_with<D: Domain>(
-    state: &D,
-    hulls: [Option<Range>; AXES],
-) -> [Option<Range>; AXES]
-    ensures { result ≡ hulls_with D.lattice 0 state.now hulls }
+// Each axis' hull takes in the range that the state has for it.
+pub(crate) fn add_to_hulls<D: Domain>(state: &D, hulls: &mut [Option<Range>; AXES])
+    ensures { hulls.new ≡ hulls_with D.lattice 0 state.now hulls.old }
 {
-    array::from_fn(
-        |index|
-            requires { index < axes }
-            ensures { result ≡ hull_with (slice_index_or hulls index None) (D.lattice.range state.entry.now index full) }
-        { hull_with(hulls[index], state.range(Register { index }, FULL)) },
-    )
+    let before = *hulls;
+    for (index, hull) in before.iter().copied().enumerate() {
+        hulls[index] = hull_with(hull, state.range(Register { index }, FULL));
+    }
 }

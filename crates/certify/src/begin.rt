@@ -5,10 +5,10 @@ ghost use Rattle.domain.specs.Lattice.{single};
 ghost use Rattle.sweep.specs.Starts.{start};
 
 use domain::domain::Domain;
-use model::axes::Position;
 use model::line::Axis;
 use model::range::Range;
 use model::register::{AXES, PARAMETERS, Register};
+use travel::travel::Travel;
 
 // The axis has this number alone.
 fn pin<D: Domain>(state: &mut D, axis: Axis, n: i32)
@@ -17,10 +17,11 @@ fn pin<D: Domain>(state: &mut D, axis: Axis, n: i32)
     state.narrow(axis.into(), Range::single(n));
 }
 
-// The axes at home, and each parameter in its allowed range. The loop keeps its index, for a register is made of its number.
-pub(crate) fn begin<D: Domain>(home: Position, allowed: &[Range; PARAMETERS]) -> D
-    ensures { result ≡ start D.lattice home allowed.now }
+// The axes at home, and each parameter in its allowed range.
+pub(crate) fn begin<D: Domain, T: Travel>(travel: &T, allowed: &[Range; PARAMETERS]) -> D
+    ensures { result ≡ start D.lattice (T.envelope travel.now) allowed.now }
 {
+    let home = travel.home();
     let mut state = D::any();
     pin(&mut state, Axis::X, home.x);
     pin(&mut state, Axis::Y, home.y);

@@ -1,14 +1,14 @@
 // Sweeps repeat until one is unchanged; that one judges.
 ghost use Rattle.std.specs.Prelude.{◌≡◌, ◌≤◌, length};
-ghost use Rattle.model.specs.Blocks.{labels};
 ghost use Rattle.model.specs.Programs.{Closed};
 ghost use Rattle.program.specs.Held.{held};
-ghost use Rattle.sweep.specs.Blocks.{blocks};
+ghost use Rattle.sweep.specs.Blocks.{blocks, states_for};
 ghost use Rattle.sweep.specs.Sweeps.{sweep, Settles, verdict_of};
 ghost use Rattle.certify.specs.Certifies.{answered, TheVerdict, Promised, Untouched};
 ghost use Rattle.certify.specs.Passes.{sweeping};
 
 use crate::begin::begin;
+use crate::copied::CopiedSides;
 use crate::lines::step;
 use crate::pass::Pass;
 use crate::refusal::{Certificate, CertifyRefusal};
@@ -23,11 +23,11 @@ use travel::travel::Travel;
 // than a type.
 fn sweep_once<D: Domain, T: Travel>(
     program: &Program,
-    travel: &T,
+    sides: &CopiedSides<T>,
     start: D,
     store: &mut [D],
 ) -> Pass<D>
-    ensures { sweeping store.new result ≡ sweep D.lattice (blocks (held program.now)) (T.sides travel.now) (held program.now) start store.old }
+    ensures { sweeping store.new result ≡ sweep D.lattice (blocks (held program.now)) (T.envelope sides.now.travel.now) (held program.now) start store.old }
 {
     let mut pass = Pass {
         line: 1,
@@ -37,17 +37,22 @@ fn sweep_once<D: Domain, T: Travel>(
         hulls: [None; AXES],
     };
     for line in program.lines() {
-        step(program, travel, store, &mut pass, line);
+        step(program, sides, store, &mut pass, line);
     }
     pass
 }
 
-fn settle<D: Domain, T: Travel>(program: &Program, travel: &T, start: D, store: &mut [D]) -> Pass<D>
-    requires { (Closed (held program.now)) × (length (labels (held program.now)) ≤ length store.old) }
-    ensures { Settles D.lattice (blocks (held program.now)) (T.sides travel.now) (held program.now) start store.old (sweeping store.new result) }
+fn settle<D: Domain, T: Travel>(
+    program: &Program,
+    sides: &CopiedSides<T>,
+    start: D,
+    store: &mut [D],
+) -> Pass<D>
+    requires { (Closed (held program.now)) × (states_for (held program.now) ≤ length store.old) }
+    ensures { Settles D.lattice (blocks (held program.now)) (T.envelope sides.now.travel.now) (held program.now) start store.old (sweeping store.new result) }
 {
     loop {
-        let pass = sweep_once(program, travel, start, store);
+        let pass = sweep_once(program, sides, start, store);
         if !pass.changed {
             return pass;
         }
@@ -71,8 +76,8 @@ pub fn certify<D: Domain, T: Travel>(
     allowed: &[Range; PARAMETERS],
     store: &mut [D],
 ) -> Result<Certificate, CertifyRefusal>
-    ensures verdict { TheVerdict D.lattice (held program.now) (T.sides travel.now) (T.origin travel.now) allowed.now (length store.old) result }
-    ensures promised { Promised (held program.now) (T.sides travel.now) (T.origin travel.now) allowed.now result }
+    ensures verdict { TheVerdict D.lattice (held program.now) (T.envelope travel.now) allowed.now (length store.old) result }
+    ensures promised { Promised (held program.now) (T.envelope travel.now) allowed.now result }
     ensures untouched { Untouched result store.old store.new }
 {
     if !program.is_closed() {
@@ -82,7 +87,8 @@ pub fn certify<D: Domain, T: Travel>(
         return Err(CertifyRefusal::Store);
     }
     clear(store);
-    let start = begin(travel.home(), allowed);
-    let pass = settle(program, travel, start, store);
+    let start = begin(travel, allowed);
+    let sides = CopiedSides::new(travel);
+    let pass = settle(program, &sides, start, store);
     verdict(pass)
 }

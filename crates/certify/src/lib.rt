@@ -4,6 +4,7 @@
 
 mod axes;
 mod begin;
+mod copied;
 pub mod judge;
 mod lines;
 mod pass;

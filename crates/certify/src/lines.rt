@@ -2,13 +2,14 @@
 ghost use Rattle.std.specs.Prelude.{◌≡◌, ◌<◌, ◌^◌, suc, if◌then◌else◌, Some, None, slice_index_or, slice_set};
 ghost use Rattle.model.specs.Opposites.{opposite};
 ghost use Rattle.model.specs.Sides.{lowest};
-ghost use Rattle.model.specs.Values.{register};
+ghost use Rattle.model.specs.Values.{expression_of, register};
 ghost use Rattle.program.specs.Held.{held};
 ghost use Rattle.sweep.specs.Blocks.{blocks};
 ghost use Rattle.sweep.specs.Sweeps.{first, failure, broken, all_sure, set_all, hulls_with, came, keeping, line_step};
 ghost use Rattle.certify.specs.Passes.{flowing, sweeping, onward, judged};
 
-use crate::axes::{all_sure, hulls_with, lowest_unshown, set_axes};
+use crate::axes::{add_to_hulls, all_sure, lowest_unshown, set_axes};
+use crate::copied::CopiedSides;
 use crate::pass::Pass;
 use crate::store::{come, condition_of, place, put, stored};
 use domain::domain::Domain;
@@ -17,6 +18,7 @@ use model::expression::{Condition, Parameter, Value};
 use model::line::Line;
 use model::opposite::opposite_of;
 use model::register::AXES;
+use model::side::Side;
 use program::table::Program;
 use travel::travel::Travel;
 
@@ -28,36 +30,37 @@ fn judge_line<D: Domain>(pass: &mut Pass<D>, cause: Option<Cause>)
     pass.failing = pass.failing.or(cause.map(|cause| Failure { line, cause }));
 }
 
-fn set_parameter<D: Domain>(pass: &mut Pass<D>, parameter: Parameter, value: &Value)
-    ensures { pass.new ≡ onward (judged pass.old (if D.lattice.sure pass.old.current value.now.expression then None else Some Cause.Arithmetic)) (D.lattice.set pass.old.current (register parameter) value.now.expression) }
+fn set_parameter<D: Domain>(pass: &mut Pass<D>, parameter: Parameter, value: Value)
+    ensures { pass.new ≡ onward (judged pass.old (if D.lattice.sure pass.old.current (expression_of value) then None else Some Cause.Arithmetic)) (D.lattice.set pass.old.current (register parameter) (expression_of value)) }
 {
-    let sure = pass.current.sure(&value.expression);
+    let expression = value.into();
+    let sure = pass.current.sure(&expression);
     judge_line(pass, (!sure).then_some(Cause::Arithmetic));
-    pass.current.set(parameter.into(), &value.expression);
+    pass.current.set(parameter.into(), &expression);
 }
 
 // Arithmetic is judged before travel, at the state before the move.
-fn cause_of_move<D: Domain, T: Travel>(sure: bool, after: &D, travel: &T) -> Option<Cause>
-    ensures { result ≡ (if sure then broken (lowest (D.lattice.shows after.now) 0 (T.sides travel.now)) else Some Cause.Arithmetic) }
+fn cause_of_move<D: Domain>(sure: bool, after: &D, sides: &[Side]) -> Option<Cause>
+    ensures { result ≡ (if sure then broken (lowest (D.lattice.shows after.now) 0 sides.now) else Some Cause.Arithmetic) }
 {
     if !sure {
         return Some(Cause::Arithmetic);
     }
-    lowest_unshown(after, travel).map(Cause::Travel)
+    lowest_unshown(after, sides).map(Cause::Travel)
 }
 
-fn move_axes<D: Domain, T: Travel>(pass: &mut Pass<D>, travel: &T, values: &[Option<Value>; AXES])
+fn move_axes<D: Domain>(pass: &mut Pass<D>, sides: &[Side], values: &[Option<Value>; AXES])
     ensures current { pass.new.current ≡ set_all D.lattice 0 values.now pass.old.current }
     ensures changed { pass.new.changed ≡ pass.old.changed }
-    ensures failing { pass.new.failing ≡ first pass.old.failing (failure pass.old.line (if all_sure D.lattice pass.old.current values.now then broken (lowest (D.lattice.shows pass.new.current) 0 (T.sides travel.now)) else Some Cause.Arithmetic)) }
+    ensures failing { pass.new.failing ≡ first pass.old.failing (failure pass.old.line (if all_sure D.lattice pass.old.current values.now then broken (lowest (D.lattice.shows pass.new.current) 0 sides.now) else Some Cause.Arithmetic)) }
     ensures line { pass.new.line ≡ pass.old.line }
     ensures hulls { pass.new.hulls ≡ hulls_with D.lattice 0 pass.new.current pass.old.hulls }
 {
     let sure = all_sure(&pass.current, values);
     set_axes(&mut pass.current, values);
-    let cause = cause_of_move(sure, &pass.current, travel);
+    let cause = cause_of_move(sure, &pass.current, sides);
     judge_line(pass, cause);
-    pass.hulls = hulls_with(&pass.current, pass.hulls);
+    add_to_hulls(&pass.current, &mut pass.hulls);
 }
 
 // A loop's line: its state goes on, as far as it meets the condition.
@@ -93,18 +96,18 @@ fn leave_branch<D: Domain>(store: &[D], place: usize, pass: &mut Pass<D>)
 // The next line.
 pub(crate) fn step<D: Domain, T: Travel>(
     program: &Program,
-    travel: &T,
+    sides: &CopiedSides<T>,
     store: &mut [D],
     pass: &mut Pass<D>,
     line: &Line,
 )
     requires { suc pass.old.line < 2 ^ 64 }
-    ensures { sweeping store.new pass.new ≡ line_step D.lattice (blocks (held program.now)) (T.sides travel.now) (sweeping store.old pass.old) line.now }
+    ensures { sweeping store.new pass.new ≡ line_step D.lattice (blocks (held program.now)) (T.envelope sides.now.travel.now) (sweeping store.old pass.old) line.now }
 {
     match line {
         Line::Plain => {}
-        Line::Setting { parameter, value } => set_parameter(pass, *parameter, value),
-        Line::Move { x, y, z, u, .. } => move_axes(pass, travel, &[*x, *y, *z, *u]),
+        Line::Setting { parameter, value } => set_parameter(pass, *parameter, *value),
+        Line::Move { x, y, z, u, .. } => move_axes(pass, sides.as_slice(), &[*x, *y, *z, *u]),
         Line::While { label, condition } => {
             pass_loop(store, place(program, *label), pass, condition);
         }

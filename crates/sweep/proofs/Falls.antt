@@ -1,25 +1,24 @@
 -- A sweep never raises the ranks of the loops' states, and lowers them where it counts as changed; so sweeps end.
-use Rattle.std.proofs.Common.{◌≡◌, ℕ, zero, suc, ◌<◌, ◌≤◌, Bool, true, false, cond, List, [], ◌∷◌, length, get_or, set, sym, refl, ap, ◌∙◌, subst, true≢false, arith, length-set, get_or-set_other, get_or-set_same}
+use Rattle.std.proofs.Common.{◌≡◌, ℕ, zero, suc, ◌<◌, ◌≤◌, Bool, true, false, cond, List, [], ◌∷◌, length, get_or, set, sym, refl, ap, ap₂, ◌+◌, ◌∙◌, subst, true≢false, replicate, ◌*◌, arith, length-set, get_or-set_other, get_or-set_same}
 use native.Mathlib.Decide.{ℕ_discrete}
 use Rattle.model.specs.declared.expression.Condition.{Condition}
-use Rattle.model.specs.declared.side.Side.{Side}
+use Rattle.model.specs.Envelopes.{Envelope}
 use Rattle.model.specs.declared.line.Line.{Line}
 use Rattle.model.specs.declared.line.Line.TheVariants.{Plain, Setting, Move, While, If, EndIf, EndWhile}
 use Rattle.model.specs.Opposites.{opposite}
 use Rattle.model.specs.Programs.{Stands, Closed}
-use Rattle.model.specs.Blocks.{labels}
 use Rattle.model.specs.Environments.{registers}
 use Rattle.model.proofs.Stepping.{end_while}
 use Rattle.model.proofs.Standing.{stands_later}
-use Rattle.domain.specs.Lattice.{Lattice, Lawful}
-use Rattle.sweep.specs.Blocks.{Blocks, blocks}
-use Rattle.sweep.specs.Sweeps.{Flow, Sweep, came, flow_step, sweep, Settles, done, again}
-use Rattle.sweep.specs.Ends.{loop_rank, loop_ranks, Ends, OneAnswer}
+use Rattle.domain.specs.Lattice.{Lattice, Meaning, Lawful}
+use Rattle.sweep.specs.Blocks.{Blocks, blocks, states_for}
+use Rattle.sweep.specs.Sweeps.{Flow, Sweep, came, flow_step, sweep, Settles, done, again, changes}
+use Rattle.sweep.specs.Ends.{loop_rank, loop_ranks, loop_one, loops, Ends, OneAnswer, Counted}
 use Rattle.sweep.proofs.Places.{place_inner, one_opener, if_no_while}
 use Rattle.sweep.proofs.Quiet.{stored}
-use Rattle.sweep.proofs.Prefix.{pre, pre_more, whole_is}
+use Rattle.sweep.proofs.Prefix.{pre, at_start, at_end, pre_more}
 
-module _ {S : Type 0} (l : Lattice S) (bs : Blocks) (s t : List S) where
+module _ {S : Type 0} {M : Meaning S} (l : Lattice M) (bs : Blocks) (s t : List S) where
   -- line by line
   ranks_le : (xs : List Line) → ((k : ℕ) (x : Line) → Stands xs k x → loop_rank l bs t x ≤ loop_rank l bs s x) → loop_ranks l bs t xs ≤ loop_ranks l bs s xs
   ranks_le [] h = omega arith
@@ -40,7 +39,7 @@ module _ {S : Type 0} (l : Lattice S) (bs : Blocks) (s t : List S) where
       let b = ranks_lt xs i z (record { inner = let k = st.inner in omega arith; is = st.is }) f (λ k y sv. h (suc k) y (stands_later sv)) in
       omega arith
 
-module _ {S : Type 0} (l : Lattice S) (p : Lawful registers l) (lines : List Line) (closed : Closed lines) (first : ℕ) (size : ℕ) (room : length (labels lines) ≤ size) where
+module _ {S : Type 0} {M : Meaning S} (l : Lattice M) (p : Lawful registers l) (lines : List Line) (closed : Closed lines) (first : ℕ) (size : ℕ) (room : states_for lines ≤ size) where
   abbrev bs : Blocks
   bs = blocks lines
 
@@ -119,54 +118,82 @@ module _ {S : Type 0} (l : Lattice S) (p : Lawful registers l) (lines : List Lin
       let k = came_low w.0 m w.1 f w.2 low in
       record { long = k.long; le = k.le; lt = k.lt }
 
-  pub low_at : (sides : List Side) (begin : S) (s : List S) (i : ℕ) → i ≤ length lines → Low (pre l bs sides lines begin s 0).flow → Low (pre l bs sides lines begin s i).flow
-  low_at sides begin s zero h low = low
-  low_at sides begin s (suc i) h low =
+  low_at : (t : Envelope) (begin : S) (s : List S) (i : ℕ) → i ≤ length lines → Low (pre l bs t lines begin s 0).flow → Low (pre l bs t lines begin s i).flow
+  low_at t begin s zero h low = low
+  low_at t begin s (suc i) h low =
       let k : i < length lines = omega arith in
       let P : Sweep S → Type 0 = λ w. Low w.flow in
-      subst P (sym (pre_more l bs sides lines begin s i k)) (step_low i (get_or lines i Plain) _ (record { inner = k; is = refl }) (low_at sides begin s i (omega arith) low))
+      subst P (sym (pre_more l bs t lines begin s i k)) (step_low i (get_or lines i Plain) _ (record { inner = k; is = refl }) (low_at t begin s i (omega arith) low))
 
-module _ {S : Type 0} (l : Lattice S) (p : Lawful registers l) (lines : List Line) (sides : List Side) (begin : S) (closed : Closed lines) where
-  sweep_low : (s : List S) (room : length (labels lines) ≤ length s) → Low l p lines closed (loop_ranks l (blocks lines) s lines) (length s) room (sweep l (blocks lines) sides lines begin s).flow
+module _ {S : Type 0} {M : Meaning S} (l : Lattice M) (p : Lawful registers l) (lines : List Line) (t : Envelope) (begin : S) (closed : Closed lines) where
+  sweep_low : (s : List S) (room : states_for lines ≤ length s) → Low l p lines closed (loop_ranks l (blocks lines) s lines) (length s) room (sweep l (blocks lines) t lines begin s).flow
   sweep_low s room =
       let P : Sweep S → Type 0 = λ w. Low l p lines closed (loop_ranks l (blocks lines) s lines) (length s) room w.flow in
-      subst P (sym (whole_is l (blocks lines) sides lines begin s))
-      (low_at l p lines closed (loop_ranks l (blocks lines) s lines) (length s) room sides begin s (length lines) (omega arith)
-      (record { long = refl; le = omega arith; lt = λ z. absurd (true≢false (sym z)) }))
+      subst P (at_end l (blocks lines) t lines begin s (length lines) (omega arith))
+      (low_at l p lines closed (loop_ranks l (blocks lines) s lines) (length s) room t begin s (length lines) (omega arith)
+      (subst P (sym (at_start l (blocks lines) t lines begin s)) (record { long = refl; le = omega arith; lt = λ z. absurd (true≢false (sym z)) })))
 
   -- the measure of repeated sweeps
-  pub sweep_falls : (s : List S) → length (labels lines) ≤ length s → (sweep l (blocks lines) sides lines begin s).flow.changed ≡ true →
-      loop_ranks l (blocks lines) (sweep l (blocks lines) sides lines begin s).flow.store lines < loop_ranks l (blocks lines) s lines
+  pub sweep_falls : (s : List S) → states_for lines ≤ length s → (sweep l (blocks lines) t lines begin s).flow.changed ≡ true →
+      loop_ranks l (blocks lines) (sweep l (blocks lines) t lines begin s).flow.store lines < loop_ranks l (blocks lines) s lines
   sweep_falls s room h = (sweep_low s room).lt h
 
+  -- sweeps settle, and no more of them change a loop than the ranks allow
   abbrev SomeEnd : List S → Type 0
-  SomeEnd s = (w : Sweep S) × Settles l (blocks lines) sides lines begin s w
+  SomeEnd s = (w : Sweep S) × (d : Settles l (blocks lines) t lines begin s w) × (changes l d ≤ loop_ranks l (blocks lines) s lines)
 
-  ends_by : (s : List S) (t : Bool) → (sweep l (blocks lines) sides lines begin s).flow.changed ≡ t →
-      ((sweep l (blocks lines) sides lines begin s).flow.changed ≡ true → SomeEnd (sweep l (blocks lines) sides lines begin s).flow.store) → SomeEnd s
-  ends_by s true h k = let r = k h in (r.0, again h r.1)
-  ends_by s false h k = (_, done h)
+  ends_by : (s : List S) → states_for lines ≤ length s → (b : Bool) → (sweep l (blocks lines) t lines begin s).flow.changed ≡ b →
+      ((sweep l (blocks lines) t lines begin s).flow.changed ≡ true → SomeEnd (sweep l (blocks lines) t lines begin s).flow.store) → SomeEnd s
+  ends_by s room true h k =
+      let z = k h in
+      let few = z.2 in
+      let fell = sweep_falls s room h in
+      (z.0, again h z.1, omega arith)
+  ends_by s room false h k = (_, done h, omega arith)
 
-  ends_under : (n : ℕ) (s : List S) → length (labels lines) ≤ length s → loop_ranks l (blocks lines) s lines < n → SomeEnd s
+  ends_under : (n : ℕ) (s : List S) → states_for lines ≤ length s → loop_ranks l (blocks lines) s lines < n → SomeEnd s
   ends_under zero s room h = absurd (omega arith)
   ends_under (suc n) s room h =
-      ends_by s _ refl (λ c.
-      let f = sweep_falls s room c in
+      ends_by s room _ refl (λ c.
+      let fell = sweep_falls s room c in
       let long = (sweep_low s room).long in
-      ends_under n (sweep l (blocks lines) sides lines begin s).flow.store (omega arith) (omega arith))
+      ends_under n (sweep l (blocks lines) t lines begin s).flow.store (omega arith) (omega arith))
 
-pub sweeps_end : {S : Type 0} (l : Lattice S) → Lawful registers l → Ends l
-sweeps_end l p lines sides begin s closed room = ends_under l p lines sides begin closed (suc (loop_ranks l (blocks lines) s lines)) s room (omega arith)
+at_fresh : {A : Type 0} (n i : ℕ) (x : A) → get_or (replicate n x) i x ≡ x
+at_fresh zero i x = refl
+at_fresh (suc n) zero x = refl
+at_fresh (suc n) (suc i) x = at_fresh n i x
 
-module _ {S : Type 0} (l : Lattice S) (bs : Blocks) (sides : List Side) (lines : List Line) (begin : S) where
-  from_done : {s : List S} {v : Sweep S} → (sweep l bs sides lines begin s).flow.changed ≡ false → Settles l bs sides lines begin s v → sweep l bs sides lines begin s ≡ v
+fresh_one : {S : Type 0} {M : Meaning S} (l : Lattice M) (bs : Blocks) (n : ℕ) (x : Line) → loop_rank l bs (replicate n l.none) x ≡ loop_one x * l.rank l.none
+fresh_one l bs n Plain = omega arith
+fresh_one l bs n (Setting p v) = omega arith
+fresh_one l bs n (Move g x y z u) = omega arith
+fresh_one l bs n (While m c) = let e = ap l.rank (at_fresh n (bs.place m) l.none) in omega arith
+fresh_one l bs n (If m c) = omega arith
+fresh_one l bs n (EndIf m) = omega arith
+fresh_one l bs n (EndWhile m) = omega arith
+
+pub counted : {S : Type 0} {M : Meaning S} (l : Lattice M) → Counted l
+counted l bs [] n = omega arith
+counted l bs (x ∷ xs) n =
+    let a = fresh_one l bs n x in let b = counted l bs xs n in
+    ap₂ (λ (i j : ℕ). i + j) a b ∙ spread (loop_one x) (loops xs) (l.rank l.none)
+  where
+    spread : (i j r : ℕ) → i * r + j * r ≡ (i + j) * r
+    spread i j r = grind (arith)
+
+pub sweeps_end : {S : Type 0} {M : Meaning S} (l : Lattice M) (t : Envelope) → Lawful registers l → Ends l t
+sweeps_end l t p lines begin s closed room = ends_under l p lines t begin closed (suc (loop_ranks l (blocks lines) s lines)) s room (omega arith)
+
+module _ {S : Type 0} {M : Meaning S} (l : Lattice M) (bs : Blocks) (t : Envelope) (lines : List Line) (begin : S) where
+  from_done : {s : List S} {v : Sweep S} → (sweep l bs t lines begin s).flow.changed ≡ false → Settles l bs t lines begin s v → sweep l bs t lines begin s ≡ v
   from_done h (done k) = refl
   from_done h (again k r) = absurd (true≢false (sym k ∙ h))
 
-  settles_one : {s : List S} {w v : Sweep S} → Settles l bs sides lines begin s w → Settles l bs sides lines begin s v → w ≡ v
+  settles_one : {s : List S} {w v : Sweep S} → Settles l bs t lines begin s w → Settles l bs t lines begin s v → w ≡ v
   settles_one (done h) b = from_done h b
   settles_one (again h a) (done k) = absurd (true≢false (sym h ∙ k))
   settles_one (again h a) (again k b) = settles_one a b
 
-pub one_answer : {S : Type 0} (l : Lattice S) → OneAnswer l
-one_answer l bs sides lines begin s w v a b = settles_one l bs sides lines begin a b
+pub one_answer : {S : Type 0} {M : Meaning S} (l : Lattice M) (t : Envelope) → OneAnswer l t
+one_answer l t bs lines begin s w v a b = settles_one l bs t lines begin a b

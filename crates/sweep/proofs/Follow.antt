@@ -1,22 +1,21 @@
 -- A sweep follows a single environment: live where the run stands, dead in a branch that the run skips.
 use Rattle.std.proofs.Common.{◌≡◌, ℕ, zero, suc, ◌+◌, ◌<◌, ◌≤◌, List, [], ◌∷◌, length, get_or, set, Some, None, fold, Option, sym, refl, ap, ◌∙◌, subst, inl, inr, arith, get_or-set_other}
 use Rattle.model.specs.declared.ending.Cause.{Cause}
-use Rattle.model.specs.declared.ending.Cause.TheVariants.{Arithmetic, Travel}
 use Rattle.model.specs.declared.ending.Failure.{Failure}
 use Rattle.model.specs.declared.ending.Ending.{Ending}
 use Rattle.model.specs.declared.ending.Ending.TheVariants.{Ended, Stopped}
-use Rattle.model.specs.declared.side.Side.{Side}
+use Rattle.model.specs.Envelopes.{Envelope}
 use Rattle.model.specs.declared.block.BlockKind.TheVariants.{While as WhileBlock, If as IfBlock}
 use Rattle.model.specs.declared.line.Line.{Line}
 use Rattle.model.specs.Environments.{Env, LegalOf, position, registers}
 use Rattle.model.specs.Sides.{kept, lowest}
-use Rattle.model.specs.Blocks.{Stack, labels}
-use Rattle.model.specs.Runs.{goes, commands, faults, Steps}
-use Rattle.model.specs.Whole.{here, Dry, faulted, left}
+use Rattle.model.specs.Blocks.{Stack}
+use Rattle.model.specs.Runs.{goes, commands, Steps}
+use Rattle.model.specs.Whole.{Dry}
 use Rattle.model.proofs.Dried.{dry_on, dry_inside}
 use Rattle.model.proofs.Closing.{closing}
-use Rattle.domain.specs.Lattice.{Lattice}
-use Rattle.sweep.specs.Blocks.{Blocks, blocks}
+use Rattle.domain.specs.Lattice.{Lattice, Meaning}
+use Rattle.sweep.specs.Blocks.{Blocks, blocks, states_for}
 use Rattle.sweep.specs.Sweeps.{Sweep, first, failure, line_step}
 use Rattle.sweep.proofs.Parts.{OpenLabel, Part}
 
@@ -44,25 +43,18 @@ followed live e = Some e
 followed (dead d) e = None
 
 -- a run with steps left makes one
-module _ (lines : List Line) (sides : List Side) where
-  pub went : (k i j : ℕ) (e f : Env) (o : Ending) → 0 < k → Steps lines i e (goes j f) → ((n : ℕ) → k ≡ suc n → Dry lines sides n j f o) → Dry lines sides k i e o
+module _ (lines : List Line) (t : Envelope) where
+  pub went : (k i j : ℕ) (e f : Env) (o : Ending) → 0 < k → Steps lines i e (goes j f) → ((n : ℕ) → k ≡ suc n → Dry lines t n j f o) → Dry lines t k i e o
   went zero i j e f o h st r = absurd (omega arith)
-  went (suc k) i j e f o h st r = dry_on lines sides st (r k refl)
+  went (suc k) i j e f o h st r = dry_on lines t st (r k refl)
 
-  pub went_inside : (k i j : ℕ) (e f : Env) (o : Ending) → 0 < k → Steps lines i e (commands j f) → lowest (kept (position f)) 0 sides ≡ None →
-      ((n : ℕ) → k ≡ suc n → Dry lines sides n j f o) → Dry lines sides k i e o
+  pub went_inside : (k i j : ℕ) (e f : Env) (o : Ending) → 0 < k → Steps lines i e (commands j f) → lowest (kept (position f)) 0 t.sides ≡ None →
+      ((n : ℕ) → k ≡ suc n → Dry lines t n j f o) → Dry lines t k i e o
   went_inside zero i j e f o h st b r = absurd (omega arith)
-  went_inside (suc k) i j e f o h st b r = dry_inside lines sides st b (r k refl)
-
-  pub went_outside : (k i j n : ℕ) (e f : Env) → 0 < k → Steps lines i e (commands j f) → lowest (kept (position f)) 0 sides ≡ Some n →
-      Dry lines sides k i e (Stopped (record { line = suc i; cause = Travel n }))
-  went_outside k i j n e f h st b = left h here st b
-
-  pub went_wrong : (k i : ℕ) (e : Env) → 0 < k → Steps lines i e faults → Dry lines sides k i e (Stopped (record { line = suc i; cause = Arithmetic }))
-  went_wrong k i e h st = faulted h here st
+  went_inside (suc k) i j e f o h st b r = dry_inside lines t st b (r k refl)
 
 -- the first failure of a sweep stays
-pub still_none : (f g : Option Failure) → f ≡ None → g ≡ None → first f g ≡ None
+still_none : (f g : Option Failure) → f ≡ None → g ≡ None → first f g ≡ None
 still_none f g h k = ap (λ (x : Option Failure). first x g) h ∙ k
 
 pub none_failing : (f : Option Failure) (n : ℕ) (c : Option Cause) → f ≡ None → c ≡ None → first f (failure n c) ≡ None
@@ -74,12 +66,12 @@ some_failing f n i c d h k m = ap (λ (x : Option Failure). first x (failure n c
 first_stays : (f g : Option Failure) (h : Failure) → f ≡ Some h → first f g ≡ Some h
 first_stays f g h e = ap (λ (x : Option Failure). first x g) e
 
-module _ {S : Type 0} (l : Lattice S) (bs : Blocks) (sides : List Side) where
-  pub stays : (xs : List Line) (w : Sweep S) (f : Failure) → w.failing ≡ Some f → (fold (line_step l bs sides) w xs).failing ≡ Some f
+module _ {S : Type 0} {M : Meaning S} (l : Lattice M) (bs : Blocks) (t : Envelope) where
+  pub stays : (xs : List Line) (w : Sweep S) (f : Failure) → w.failing ≡ Some f → (fold (line_step l bs t) w xs).failing ≡ Some f
   stays [] w f h = h
-  stays (x ∷ xs) w f h = stays xs (line_step l bs sides w x) f (first_stays w.failing _ f h)
+  stays (x ∷ xs) w f h = stays xs (line_step l bs t w x) f (first_stays w.failing _ f h)
 
-module _ {S : Type 0} (l : Lattice S) (tracks : S → Option Env → Type 0) (lines : List Line) where
+module _ {S : Type 0} {M : Meaning S} (l : Lattice M) (tracks : S → Option Env → Type 0) (lines : List Line) where
   abbrev pub kept_at : List S → ℕ → S
   kept_at s m = get_or s ((blocks lines).place m) l.none
 
@@ -121,9 +113,9 @@ module _ {S : Type 0} (l : Lattice S) (tracks : S → Option Env → Type 0) (li
     pub line : w.line ≡ suc i
     pub current : tracks w.flow.current (followed mode e)
     pub shelf : Shelf mode e os w.flow.store
-    pub room : length (labels lines) ≤ length w.flow.store
+    pub room : states_for lines ≤ length w.flow.store
 
   -- from there the sweep ends as the run does
-  abbrev pub Goal : List Side → List Line → Type 0
-  Goal sides xs = (mode : Mode) (os : Stack) (i : ℕ) (w : Sweep S) (e : Env) (k : ℕ) → LegalOf registers e → Part lines os xs i → Way mode e os i w → length xs ≤ k + spare mode xs →
-      Dry lines sides k (spot mode i xs) e (stop_of (fold (line_step l (blocks lines) sides) w xs).failing)
+  abbrev pub Goal : Envelope → List Line → Type 0
+  Goal t xs = (mode : Mode) (os : Stack) (i : ℕ) (w : Sweep S) (e : Env) (k : ℕ) → LegalOf registers e → Part lines os xs i → Way mode e os i w → length xs ≤ k + spare mode xs →
+      Dry lines t k (spot mode i xs) e (stop_of (fold (line_step l (blocks lines) t) w xs).failing)

@@ -7,7 +7,7 @@ use Rattle.model.specs.declared.range.Range.{Range}
 use Rattle.model.specs.declared.line.Line.{Line}
 use Rattle.model.specs.declared.line.Line.TheVariants.{Plain, Setting, Move, While, If, EndIf, EndWhile}
 use Rattle.model.specs.Environments.{Env, at, Lies, LegalOf, full, registers}
-use Rattle.domain.specs.Lattice.{Lattice, Lawful}
+use Rattle.domain.specs.Lattice.{Lattice, Meaning, Lawful}
 use Rattle.sweep.specs.Sweeps.{hull, hull_of, hull_with, hulls_with, hulls_step}
 use Rattle.sweep.specs.Sound.{LiesSome}
 
@@ -34,8 +34,8 @@ right_of n (Some x) y k = hull_right n x y k
 with_right : (n : ℤ) (h : Option Range) (y : Range) → Lies n y → LiesSome n (hull_with h y)
 with_right n h y k = cond_both (lt_z y.hi y.lo) h (hull_of h y) (LiesSome n) (λ e. absurd (lies_not n y k e)) (λ _. right_of n h y k)
 
-module _ {S : Type 0} (l : Lattice S) where
-  pub hulls_keep : (r k : ℕ) (s : S) (hs : List (Option Range)) (n : ℤ) → LiesSome n (get_or hs k None) → LiesSome n (get_or (hulls_with l r s hs) k None)
+module _ {S : Type 0} {M : Meaning S} (l : Lattice M) where
+  hulls_keep : (r k : ℕ) (s : S) (hs : List (Option Range)) (n : ℤ) → LiesSome n (get_or hs k None) → LiesSome n (get_or (hulls_with l r s hs) k None)
   hulls_keep r k s [] n h = h
   hulls_keep r zero s (x ∷ hs) n h = with_left n x (l.range s r full) h
   hulls_keep r (suc k) s (x ∷ hs) n h = hulls_keep (suc r) k s hs n h
@@ -62,7 +62,7 @@ module _ {S : Type 0} (l : Lattice S) where
   step_long s hs (EndIf m) = refl
   step_long s hs (EndWhile m) = refl
 
-  pub hulls_hold : Lawful registers l → (r k : ℕ) (s : S) (hs : List (Option Range)) (e : Env) → r + length hs ≤ registers → k < length hs → LegalOf registers e → l.means s e →
+  pub hulls_hold : Lawful registers l → (r k : ℕ) (s : S) (hs : List (Option Range)) (e : Env) → r + length hs ≤ registers → k < length hs → LegalOf registers e → M s e →
       LiesSome (at e (r + k)) (get_or (hulls_with l r s hs) k None)
   hulls_hold p r k s [] e h j w m = absurd (omega arith)
   hulls_hold p r zero s (x ∷ hs) e h j w m =

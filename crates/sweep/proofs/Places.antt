@@ -1,5 +1,5 @@
 -- Each block of a closed program has a place of its own in the working store, and the condition of its first line.
-use Rattle.std.proofs.Common.{◌≡◌, ℕ, ◌<◌, List, length, get_or, Some, sym, ap, ◌∙◌, arith}
+use Rattle.std.proofs.Common.{◌≡◌, ℕ, ◌<◌, List, get_or, Some, sym, ap, ◌∙◌, arith}
 use Rattle.model.specs.declared.expression.Condition.{Condition}
 use Rattle.model.specs.declared.block.BlockKind.{BlockKind}
 use Rattle.model.specs.declared.block.Role.TheVariants.{Opens}
@@ -9,9 +9,9 @@ use Rattle.model.specs.Blocks.{role_of, labels}
 use Rattle.model.specs.Programs.{Stands, opening, Once}
 use Rattle.model.proofs.Labels.{Among, placed, opens_among}
 use Rattle.model.proofs.Found.{block_found}
-use Rattle.sweep.specs.Blocks.{blocks, place_of, condition_of}
+use Rattle.sweep.specs.Blocks.{blocks, states_for, place_of, condition_of}
 
-pub place_inner : (lines : List Line) (i l : ℕ) (x : Line) → Stands lines i x → opening (role_of x) ≡ Some l → (blocks lines).place l < length (labels lines)
+pub place_inner : (lines : List Line) (i l : ℕ) (x : Line) → Stands lines i x → opening (role_of x) ≡ Some l → (blocks lines).place l < states_for lines
 place_inner lines i l x st h =
     let p = placed 0 (labels lines) l (opens_among lines i l x st h) in
     let e = ap place_of p.found in

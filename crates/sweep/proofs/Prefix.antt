@@ -1,43 +1,51 @@
 -- The sweep as it stands before each line, and the store at the places of loops and branches.
-use Rattle.std.proofs.Common.{◌≡◌, ℕ, zero, suc, ◌+◌, ◌-◌, ◌<◌, ◌≤◌, false, List, length, get_or, take, fold, sym, refl, ap, ◌∙◌, subst, add-one, arith, take_all, get_or-set_same}
+use Rattle.std.proofs.Common.{◌≡◌, ℕ, zero, suc, ◌+◌, ◌-◌, ◌<◌, ◌≤◌, false, List, length, get_or, take, sym, refl, ap, ◌∙◌, add-one, arith, take_all, get_or-set_same}
 use Rattle.std.proofs.lemmas.List.Sums.{fold_more}
 use Rattle.model.specs.declared.expression.Condition.{Condition}
-use Rattle.model.specs.declared.side.Side.{Side}
+use Rattle.model.specs.Envelopes.{Envelope}
 use Rattle.model.specs.declared.line.Line.{Line}
 use Rattle.model.specs.declared.line.Line.TheVariants.{Plain, Setting, Move, While, If, EndIf, EndWhile}
 use Rattle.model.specs.Opposites.{opposite}
 use Rattle.model.specs.Programs.{Stands, Closed}
-use Rattle.model.specs.Blocks.{labels}
-use Rattle.domain.specs.Lattice.{Lattice}
+use Rattle.domain.specs.Lattice.{Lattice, Meaning}
 use Rattle.sweep.specs.Blocks.{Blocks, blocks}
 use Rattle.sweep.specs.Sweeps.{Flow, Sweep, flow_step, line_step, fresh, sweep}
+use Rattle.sweep.specs.Sound.{Unchanged}
 use Rattle.sweep.proofs.Places.{place_inner, one_opener, if_no_while}
 use Rattle.sweep.proofs.Quiet.{stored, Writes, before_quiet, steady, as_long}
 
-module _ {S : Type 0} (l : Lattice S) (bs : Blocks) (sides : List Side) (lines : List Line) (begin : S) (s : List S) where
+module _ {S : Type 0} {M : Meaning S} (l : Lattice M) (bs : Blocks) (t : Envelope) (lines : List Line) (begin : S) (s : List S) where
   -- the sweep before the line i
   abbrev pub pre : ℕ → Sweep S
-  pre i = fold (line_step l bs sides) (fresh l begin s) (take i lines)
+  pre i = sweep l bs t (take i lines) begin s
 
-  pub pre_more : (i : ℕ) → i < length lines → pre (suc i) ≡ line_step l bs sides (pre i) (get_or lines i Plain)
-  pre_more i h = let m = fold_more (line_step l bs sides) (fresh l begin s) lines i Plain h in rw add-one at m
-
-  pub next_is : (i : ℕ) (x : Line) → Stands lines i x → pre (suc i) ≡ line_step l bs sides (pre i) x
-  next_is i x st = pre_more i st.inner ∙ ap (line_step l bs sides (pre i)) st.is
-
-  pub whole_is : sweep l bs sides lines begin s ≡ pre (length lines)
+  pub at_start : pre 0 ≡ fresh l begin s
   unfolding sweep
-  whole_is = ap (fold (line_step l bs sides) (fresh l begin s)) (sym (take_all (length lines) lines (omega arith)))
+  at_start = refl
 
-  pub long_at : (i : ℕ) → i ≤ length lines → length (pre i).flow.store ≡ length s
-  long_at zero h = refl
+  pub at_end : (i : ℕ) → length lines ≤ i → pre i ≡ sweep l bs t lines begin s
+  at_end i h = ap (λ (xs : List Line). sweep l bs t xs begin s) (take_all i lines h)
+
+  pub pre_more : (i : ℕ) → i < length lines → pre (suc i) ≡ line_step l bs t (pre i) (get_or lines i Plain)
+  unfolding sweep
+  pre_more i h = let m = fold_more (line_step l bs t) (fresh l begin s) lines i Plain h in rw add-one at m
+
+  pub next_is : (i : ℕ) (x : Line) → Stands lines i x → pre (suc i) ≡ line_step l bs t (pre i) x
+  next_is i x st = pre_more i st.inner ∙ ap (line_step l bs t (pre i)) st.is
+
+  long_at : (i : ℕ) → i ≤ length lines → length (pre i).flow.store ≡ length s
+  long_at zero h = ap (λ (w : Sweep S). length w.flow.store) at_start
   long_at (suc i) h =
       let k : i < length lines = omega arith in
       ap (λ (w : Sweep S). length w.flow.store) (pre_more i k) ∙ (as_long l bs (pre i).flow (get_or lines i Plain) ∙ long_at i (omega arith))
 
-  module _ (end : (pre (length lines)).flow.changed ≡ false) where
+  -- a sweep leaves the working store as long as it was
+  pub long_after : length (sweep l bs t lines begin s).flow.store ≡ length s
+  long_after = ap (λ (w : Sweep S). length w.flow.store) (sym (at_end (length lines) (omega arith))) ∙ long_at (length lines) (omega arith)
+
+  module _ (quiet : (sweep l bs t lines begin s).flow.changed ≡ false) where
     quiet_by : (m i : ℕ) → i + m ≡ length lines → (pre i).flow.changed ≡ false
-    quiet_by zero i e = let q : i ≡ length lines = omega arith in subst (λ (k : ℕ). (pre k).flow.changed ≡ false) (sym q) end
+    quiet_by zero i e = ap (λ (w : Sweep S). w.flow.changed) (at_end i (omega arith)) ∙ quiet
     quiet_by (suc m) i e =
         let h : i < length lines = omega arith in
         let r = quiet_by m (suc i) (omega arith) in
@@ -49,7 +57,7 @@ module _ {S : Type 0} (l : Lattice S) (bs : Blocks) (sides : List Side) (lines :
         ap (λ (w : Sweep S). w.flow.changed) (sym (next_is i x st)) ∙ quiet_by (length lines - suc i) (suc i) (omega arith)
 
     -- from the line i on, for d lines that do not write the place b
-    pub steady_over : (b i d : ℕ) → i + d ≤ length lines → ((k : ℕ) (x : Line) → i ≤ k → Stands lines k x → Writes bs b x → ⊥) →
+    steady_over : (b i d : ℕ) → i + d ≤ length lines → ((k : ℕ) (x : Line) → i ≤ k → Stands lines k x → Writes bs b x → ⊥) →
         stored l (pre (i + d)).flow b ≡ stored l (pre i).flow b
     steady_over b i zero h n = let q : i + 0 ≡ i = omega arith in ap (λ (k : ℕ). stored l (pre k).flow b) q
     steady_over b i (suc d) h n =
@@ -61,10 +69,10 @@ module _ {S : Type 0} (l : Lattice S) (bs : Blocks) (sides : List Side) (lines :
         (steady l bs (pre (i + d)).flow (get_or lines (i + d) Plain) b (quiet_line (i + d) _ st) (n (i + d) _ (omega arith) st) ∙
         steady_over b i d (omega arith) n))
 
-module _ {S : Type 0} (l : Lattice S) (sides : List Side) (lines : List Line) (begin : S) (s : List S) (closed : Closed lines)
-    (room : length (labels lines) ≤ length s) (end : (pre l (blocks lines) sides lines begin s (length lines)).flow.changed ≡ false) where
+module _ {S : Type 0} {M : Meaning S} (l : Lattice M) (t : Envelope) (lines : List Line) (begin : S) (s : List S) (closed : Closed lines)
+    (unchanged : Unchanged l lines t begin s) where
   abbrev here : ℕ → Flow S
-  here i = (pre l (blocks lines) sides lines begin s i).flow
+  here i = (pre l (blocks lines) t lines begin s i).flow
 
   loop_unwritten : (i m : ℕ) (c : Condition) → Stands lines i (While m c) → (k : ℕ) (x : Line) → 0 ≤ k → Stands lines k x → Writes (blocks lines) ((blocks lines).place m) x → ⊥
   loop_unwritten i m c st k Plain z t h = h
@@ -82,7 +90,8 @@ module _ {S : Type 0} (l : Lattice S) (sides : List Side) (lines : List Line) (b
   loop_kept i m k c st h =
       let q : 0 + k ≡ k = omega arith in
       ap (λ (j : ℕ). stored l (here j) ((blocks lines).place m)) (sym q) ∙
-      steady_over l (blocks lines) sides lines begin s end ((blocks lines).place m) 0 k (omega arith) (loop_unwritten i m c st)
+      (steady_over l (blocks lines) t lines begin s unchanged.quiet ((blocks lines).place m) 0 k (omega arith) (loop_unwritten i m c st) ∙
+      ap (λ (w : Sweep S). stored l w.flow ((blocks lines).place m)) (at_start l (blocks lines) t lines begin s))
 
   branch_unwritten : (i m : ℕ) (c : Condition) → Stands lines i (If m c) → (k : ℕ) (x : Line) → suc i ≤ k → Stands lines k x → Writes (blocks lines) ((blocks lines).place m) x → ⊥
   branch_unwritten i m c st k Plain z t h = h
@@ -97,9 +106,10 @@ module _ {S : Type 0} (l : Lattice S) (sides : List Side) (lines : List Line) (b
   branch_first : (i m : ℕ) (c : Condition) → Stands lines i (If m c) → stored l (here (suc i)) ((blocks lines).place m) ≡ l.keep (here i).current (opposite c)
   branch_first i m c st =
       let h = st.inner in
-      let long = long_at l (blocks lines) sides lines begin s i (omega arith) in
+      let room = unchanged.room in
+      let long = long_at l (blocks lines) t lines begin s i (omega arith) in
       let p = place_inner lines i m (If m c) st refl in
-      ap (λ (w : Sweep S). stored l w.flow ((blocks lines).place m)) (next_is l (blocks lines) sides lines begin s i (If m c) st) ∙
+      ap (λ (w : Sweep S). stored l w.flow ((blocks lines).place m)) (next_is l (blocks lines) t lines begin s i (If m c) st) ∙
       get_or-set_same (here i).store ((blocks lines).place m) _ l.none (omega arith)
 
   -- what an IF stores is there at every later line
@@ -107,5 +117,5 @@ module _ {S : Type 0} (l : Lattice S) (sides : List Side) (lines : List Line) (b
   branch_kept i m j c st h k =
       let q : suc i + (j - suc i) ≡ j = omega arith in
       ap (λ (o : ℕ). stored l (here o) ((blocks lines).place m)) (sym q) ∙
-      (steady_over l (blocks lines) sides lines begin s end ((blocks lines).place m) (suc i) (j - suc i) (omega arith) (branch_unwritten i m c st) ∙
+      (steady_over l (blocks lines) t lines begin s unchanged.quiet ((blocks lines).place m) (suc i) (j - suc i) (omega arith) (branch_unwritten i m c st) ∙
       branch_first i m c st)

@@ -2,16 +2,16 @@
 use Rattle.std.proofs.Common.{◌≡◌, ℕ, Bool, true, false, cond, List, length, get_or, set, sym, refl, ap, ◌∙◌, length-set, get_or-set_other}
 use Rattle.model.specs.declared.line.Line.{Line}
 use Rattle.model.specs.declared.line.Line.TheVariants.{Plain, Setting, Move, While, If, EndIf, EndWhile}
-use Rattle.domain.specs.Lattice.{Lattice}
+use Rattle.domain.specs.Lattice.{Lattice, Meaning}
 use Rattle.sweep.specs.Blocks.{Blocks}
 use Rattle.sweep.specs.Sweeps.{Flow, came, flow_step}
 
 -- the state that stands at a place of the store
-abbrev pub stored : {S : Type 0} → Lattice S → Flow S → ℕ → S
+abbrev pub stored : {S : Type 0} {M : Meaning S} → Lattice M → Flow S → ℕ → S
 stored l f b = get_or f.store b l.none
 
 -- coming to a loop's state left `changed` false
-pub record Quiet {S : Type 0} (l : Lattice S) (b : ℕ) (f g : Flow S) : Type 0 where
+pub record Quiet {S : Type 0} {M : Meaning S} (l : Lattice M) (b : ℕ) (f g : Flow S) : Type 0 where
   pub before : f.changed ≡ false
   pub inside : l.within f.current (stored l f b) ≡ true
   pub same : g.store ≡ f.store
@@ -27,7 +27,7 @@ Writes bs b (If m c) = bs.place m ≡ b
 Writes bs b (EndIf m) = ⊥
 Writes bs b (EndWhile m) = ⊥
 
-module _ {S : Type 0} (l : Lattice S) where
+module _ {S : Type 0} {M : Meaning S} (l : Lattice M) where
   came_quiet_by : (b : ℕ) (f : Flow S) (t : Bool) → l.within f.current (stored l f b) ≡ t → (g : Flow S) →
       g ≡ cond t
       (record { store = f.store; current = stored l f b; changed = f.changed })

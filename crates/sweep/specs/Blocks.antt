@@ -1,12 +1,16 @@
 -- What a sweep asks of a program's blocks, by label: the number under which a block has its place in the working store,
 -- and the condition of the line that opens it.
-use Rattle.std.specs.Prelude.{ℕ, List, pos, Some, None, Option}
+use Rattle.std.specs.Prelude.{ℕ, List, length, pos, Some, None, Option}
 use Rattle.model.specs.declared.expression.Term.TheVariants.{Number}
 use Rattle.model.specs.declared.expression.Rel.TheVariants.{Eq}
 use Rattle.model.specs.declared.expression.Condition.{Condition}
 use Rattle.model.specs.declared.block.Block.{Block}
 use Rattle.model.specs.declared.line.Line.{Line}
-use Rattle.model.specs.Blocks.{block_number, block_of}
+use Rattle.model.specs.Blocks.{block_number, block_of, labels}
+
+-- how many states a program needs: one for each block
+abbrev pub states_for : List Line → ℕ
+states_for lines = length (labels lines)
 
 pub record Blocks : Type 0 where
   pub place : ℕ → ℕ

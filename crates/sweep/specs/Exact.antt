@@ -1,19 +1,20 @@
 -- On single values a program without loops is certified exactly where its run ends well, and else fails as its run does.
-use Rattle.std.specs.Prelude.{◌≡◌, ℕ, ◌≤◌, ◌↔◌, List, map, length, drop}
+use Rattle.std.specs.Prelude.{◌≡◌, ℕ, ◌≤◌, ◌↔◌, List, map, length, take, drop, ℤ}
 use Rattle.std.specs.List.{AllByRecursion}
-use Rattle.model.specs.declared.side.Side.{Side}
 use Rattle.model.specs.declared.ending.Ending.{Ending}
 use Rattle.model.specs.declared.ending.Ending.TheVariants.{Ended, Stopped}
 use Rattle.model.specs.declared.line.Line.{Line}
 use Rattle.model.specs.declared.line.Line.TheVariants.{Plain, Setting, Move, While, If, EndIf, EndWhile}
-use Rattle.model.specs.Environments.{Env, LegalOf, axes, registers, position}
+use Rattle.model.specs.Envelopes.{Envelope}
+use Rattle.model.specs.Environments.{Env, LegalOf, axes, parameters, registers, position}
 use Rattle.model.specs.Written.{WrittenLine}
-use Rattle.model.specs.Blocks.{labels}
 use Rattle.model.specs.Programs.{Closed}
 use Rattle.model.specs.Whole.{Dry}
-use Rattle.domain.specs.Lattice.{Lattice, single}
-use Rattle.sweep.specs.Sweeps.{Sweep, Verdict, certified, uncertified, verdict}
-use Rattle.sweep.specs.Sound.{Judges}
+use Rattle.domain.specs.Lattice.{Lattice, Meaning, single}
+use Rattle.sweep.specs.Blocks.{blocks}
+use Rattle.sweep.specs.Starts.{start}
+use Rattle.sweep.specs.Sweeps.{Verdict, certified, uncertified, verdict, sweep}
+use Rattle.sweep.specs.Sound.{Unchanged}
 
 abbrev pub NoWhile : Line → Type 0
 NoWhile Plain = Unit {0}
@@ -29,9 +30,14 @@ abbrev pub ending : Verdict → Ending
 ending (certified hulls) = Ended
 ending (uncertified f) = Stopped f
 
--- home and the allowed ranges leave the one environment e: a run of enough steps ends as the verdict says, and no other way
-abbrev pub Exact : {S : Type 0} → Lattice S → Type 0
-Exact {S} l = (lines : List Line) (sides : List Side) (e : Env) (n k : ℕ) (w : Sweep S) →
-    Closed lines → AllByRecursion WrittenLine lines → AllByRecursion NoWhile lines → LegalOf registers e → length (labels lines) ≤ n → length lines ≤ k →
-    Judges l lines sides (position e) (map single (drop axes e)) n w →
-    (o : Ending) → Dry lines sides k 0 e o ↔ (o ≡ ending (verdict w))
+-- the parameters' numbers in an environment
+abbrev pub values_of : Env → List ℤ
+values_of e = take parameters (drop axes e)
+
+-- the allowed ranges leave the one environment e, which has the axes at home: a run of enough steps ends as the verdict of an unchanged
+-- sweep says, and no other way
+abbrev pub Exact : {S : Type 0} {M : Meaning S} → Lattice M → Envelope → Type 0
+Exact {S} l t = (lines : List Line) (e : Env) (store : List S) (k : ℕ) →
+    Closed lines → AllByRecursion WrittenLine lines → AllByRecursion NoWhile lines → LegalOf registers e → position e ≡ t.home → length lines ≤ k →
+    Unchanged l lines t (start l t (map single (values_of e))) store →
+    (o : Ending) → Dry lines t k 0 e o ↔ (o ≡ ending (verdict (sweep l (blocks lines) t lines (start l t (map single (values_of e))) store)))

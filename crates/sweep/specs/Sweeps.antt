@@ -8,17 +8,17 @@ use Rattle.std.specs.Int.{int_min, int_max}
 use Rattle.model.specs.declared.expression.Condition.{Condition}
 use Rattle.model.specs.declared.expression.Value.{Value}
 use Rattle.model.specs.declared.range.Range.{Range}
-use Rattle.model.specs.declared.side.Side.{Side}
 use Rattle.model.specs.declared.ending.Cause.{Cause}
 use Rattle.model.specs.declared.ending.Cause.TheVariants.{Arithmetic, Travel}
 use Rattle.model.specs.declared.ending.Failure.{Failure}
 use Rattle.model.specs.declared.line.Line.{Line}
 use Rattle.model.specs.declared.line.Line.TheVariants.{Plain, Setting, Move, While, If, EndIf, EndWhile}
+use Rattle.model.specs.Envelopes.{Envelope}
 use Rattle.model.specs.Environments.{full, axes}
-use Rattle.model.specs.Values.{register, values, four, Values}
+use Rattle.model.specs.Values.{register, expression_of, values, four, Values}
 use Rattle.model.specs.Opposites.{opposite}
 use Rattle.model.specs.Sides.{lowest}
-use Rattle.domain.specs.Lattice.{Lattice}
+use Rattle.domain.specs.Lattice.{Lattice, Meaning}
 use Rattle.sweep.specs.Blocks.{Blocks}
 
 -- what goes from line to line: the working store, the current state, whether a loop's state grew
@@ -73,10 +73,10 @@ abbrev pub broken : Option ℕ → Option Cause
 broken None = None
 broken (Some k) = Some (Travel k)
 
-module _ {S : Type 0} (l : Lattice S) where
+module _ {S : Type 0} {M : Meaning S} (l : Lattice M) where
   abbrev pub set_one : ℕ → Option Value → S → S
   set_one r None s = s
-  set_one r (Some v) s = l.set s r v.expression
+  set_one r (Some v) s = l.set s r (expression_of v)
 
   -- the registers from r on are set to those of the values that are there
   abbrev pub set_all : ℕ → Values → S → S
@@ -85,7 +85,7 @@ module _ {S : Type 0} (l : Lattice S) where
 
   abbrev pub sure_one : S → Option Value → Bool
   sure_one s None = true
-  sure_one s (Some v) = l.sure s v.expression
+  sure_one s (Some v) = l.sure s (expression_of v)
 
   -- no value of them may fault
   abbrev pub all_sure : S → Values → Bool
@@ -112,7 +112,7 @@ module _ {S : Type 0} (l : Lattice S) where
   -- a branch stores the state that skips it, and joins it at its end
   abbrev pub flow_step : Blocks → Flow S → Line → Flow S
   flow_step bs f Plain = f
-  flow_step bs f (Setting p v) = record { store = f.store; current = l.set f.current (register p) v.expression; changed = f.changed }
+  flow_step bs f (Setting p v) = record { store = f.store; current = l.set f.current (register p) (expression_of v); changed = f.changed }
   flow_step bs f (Move g x y z u) = record { store = f.store; current = set_all 0 (four x y z u) f.current; changed = f.changed }
   flow_step bs f (While b c) = keeping c (came (bs.place b) f)
   flow_step bs f (EndWhile b) = keeping (opposite (bs.condition b)) (came (bs.place b) f)
@@ -120,18 +120,18 @@ module _ {S : Type 0} (l : Lattice S) where
   flow_step bs f (EndIf b) = record { store = f.store; current = l.join (slice_index_or f.store (bs.place b) l.none) f.current; changed = f.changed }
 
   -- a move leaves the travel where a side is not shown of the state after it
-  abbrev pub leaves : List Side → S → Line → Option Cause
-  leaves sides after Plain = None
-  leaves sides after (Setting p v) = None
-  leaves sides after (Move g x y z u) = broken (lowest (l.shows after) 0 sides)
-  leaves sides after (While b c) = None
-  leaves sides after (EndWhile b) = None
-  leaves sides after (If b c) = None
-  leaves sides after (EndIf b) = None
+  abbrev pub leaves : Envelope → S → Line → Option Cause
+  leaves t after Plain = None
+  leaves t after (Setting p v) = None
+  leaves t after (Move g x y z u) = broken (lowest (l.shows after) 0 t.sides)
+  leaves t after (While b c) = None
+  leaves t after (EndWhile b) = None
+  leaves t after (If b c) = None
+  leaves t after (EndIf b) = None
 
   -- arithmetic is judged before travel
-  abbrev pub cause : List Side → S → S → Line → Option Cause
-  cause sides before after x = cond (all_sure before (values x)) (leaves sides after x) (Some Arithmetic)
+  abbrev pub cause : Envelope → S → S → Line → Option Cause
+  cause t before after x = cond (all_sure before (values x)) (leaves t after x) (Some Arithmetic)
 
   -- only moves add to the hulls
   abbrev pub hulls_step : S → List (Option Range) → Line → List (Option Range)
@@ -144,13 +144,13 @@ module _ {S : Type 0} (l : Lattice S) where
   hulls_step after hs (EndIf b) = hs
 
   -- one line: its values are judged at the state before it, sides and hulls at the state after it
-  abbrev pub line_step : Blocks → List Side → Sweep S → Line → Sweep S
-  line_step bs sides w x =
+  abbrev pub line_step : Blocks → Envelope → Sweep S → Line → Sweep S
+  line_step bs t w x =
       let after = flow_step bs w.flow x in
       record {
         flow = after;
         line = suc w.line;
-        failing = first w.failing (failure w.line (cause sides w.flow.current after.current x));
+        failing = first w.failing (failure w.line (cause t w.flow.current after.current x));
         hulls = hulls_step after.current w.hulls x;
       }
 
@@ -159,11 +159,16 @@ module _ {S : Type 0} (l : Lattice S) where
   fresh begin store = record { flow = record { store = store; current = begin; changed = false }; line = 1; failing = None; hulls = replicate axes None }
 
   -- from a state and a working store through all lines
-  unfoldable pub sweep : Blocks → List Side → List Line → S → List S → Sweep S
-  sweep bs sides lines begin store = fold (line_step bs sides) (fresh begin store) lines
+  unfoldable pub sweep : Blocks → Envelope → List Line → S → List S → Sweep S
+  sweep bs t lines begin store = fold (line_step bs t) (fresh begin store) lines
 
   -- sweeps repeat until one is unchanged, and that one judges
-  pub data Settles (bs : Blocks) (sides : List Side) (lines : List Line) (begin : S) : List S → Sweep S → Type 0 where
-    done : {store : List S} → (sweep bs sides lines begin store).flow.changed ≡ false → Settles bs sides lines begin store (sweep bs sides lines begin store)
-    again : {store : List S} {w : Sweep S} → (sweep bs sides lines begin store).flow.changed ≡ true →
-        Settles bs sides lines begin (sweep bs sides lines begin store).flow.store w → Settles bs sides lines begin store w
+  pub data Settles (bs : Blocks) (t : Envelope) (lines : List Line) (begin : S) : List S → Sweep S → Type 0 where
+    done : {store : List S} → (sweep bs t lines begin store).flow.changed ≡ false → Settles bs t lines begin store (sweep bs t lines begin store)
+    again : {store : List S} {w : Sweep S} → (sweep bs t lines begin store).flow.changed ≡ true →
+        Settles bs t lines begin (sweep bs t lines begin store).flow.store w → Settles bs t lines begin store w
+
+  -- how many sweeps changed a loop before the one that judges
+  abbrev pub changes : {bs : Blocks} {t : Envelope} {lines : List Line} {begin : S} {store : List S} {w : Sweep S} → Settles bs t lines begin store w → ℕ
+  changes (done h) = 0
+  changes (again h d) = suc (changes d)

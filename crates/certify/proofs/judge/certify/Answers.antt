@@ -1,5 +1,5 @@
-use Rattle.std.proofs.Common.{◌≤◌, length, sym, refl, arith}
-use Rattle.model.specs.Blocks.{labels}
+use Rattle.std.proofs.Common.{◌≤◌, Bor, length, ap, sym, refl, arith}
+use Rattle.sweep.specs.Blocks.{states_for}
 use Rattle.program.specs.Held.{held}
 use Rattle.program.proofs.Written.{passing_lines}
 use Rattle.sweep.specs.Sound.{Judges}
@@ -11,16 +11,15 @@ pub returns : goal.returns
 returns g c =
     let l = g.D.Domain.lattice in
     let lines = held c.args.program.now in
-    let sides = g.T.Travel.sides c.args.travel.now in
-    let home = g.T.Travel.origin c.args.travel.now in
+    let t = g.T.Travel.envelope c.args.travel.now in
     let allowed = c.args.allowed.now in
     let n = length c.args.store.now in
     let w = sweeping c.settle-pass.new.store c.settle-pass.result in
-    let judges : Judges l lines sides home allowed n w = judges_by l lines sides home allowed n _ _ _ _ c.settle-pass.ensures c.begin-start.ensures c.home.ensures c.clear.ensures in
-    let enough : length (labels lines) ≤ n = omega arith in
+    let judges : Judges l lines t allowed n w = judges_by l lines t allowed n _ _ _ _ c.settle-pass.ensures (ap (λ (b : Bor g.row.T.Denot). g.T.Travel.envelope b.now) c.new-sides.ensures) c.begin-start.ensures c.clear.ensures in
+    let enough : states_for lines ≤ n = omega arith in
     let closes = sym c.if-not-is_closed.ensures.is in
     record {
-      verdict = verdict_only l lines sides home allowed n closes enough w judges c.verdict.result c.verdict.ensures;
-      promised = promised_by l g.met.D.Domain.lawful lines sides home allowed n w c.verdict.result (c.if-not-is_closed.ensures.closed refl) (passing_lines lines c.args.program.now.written) c.told-allowed enough judges c.verdict.ensures;
+      verdict = verdict_only l lines t allowed n closes enough w judges c.verdict.result c.verdict.ensures;
+      promised = promised_by l t g.met.D.Domain.lawful (g.met.T.Travel.lawful c.args.travel.now).proper lines allowed n w c.verdict.result (c.if-not-is_closed.ensures.closed refl) (passing_lines lines c.args.program.now.written) c.told-allowed enough judges c.verdict.ensures;
       untouched = untouched_by _ _ _ _ c.verdict.ensures;
     }

@@ -5,5 +5,5 @@ use Rattle.certify.proofs.judge.sweep_once.Goals as goal
 
 pub returns : goal.returns
 returns g c =
-    all_lines g.D.Domain.lattice (blocks (held c.args.program.now)) (g.T.Travel.sides c.args.travel.now) c.args.start c.args.store.now
+    all_lines g.D.Domain.lattice (blocks (held c.args.program.now)) (g.T.Travel.envelope c.args.sides.now.travel.now) c.args.start c.args.store.now
     c.lines-line-items.result.now (held c.args.program.now) c.loop-line.line-index c.loop-line.store c.loop-line.pass c.lines-line-items.ensures c.loop-line-test.false c.loop-line.invariant.1

@@ -9,4 +9,4 @@ abbrev pub invariant-loop-line : goal.invariant-loop-line
 invariant-loop-line g l =
     (l.pass.line ≡ suc l.line-index)
     × (sweeping l.store l.pass
-    ≡ fold (line_step g.D.Domain.lattice (blocks (held l.program)) (g.T.Travel.sides l.travel)) (fresh g.D.Domain.lattice l.initial.pass.current l.initial.store) (take l.line-index l.line-items))
+    ≡ fold (line_step g.D.Domain.lattice (blocks (held l.program)) (g.T.Travel.envelope l.sides.travel.now)) (fresh g.D.Domain.lattice l.initial.pass.current l.initial.store) (take l.line-index l.line-items))
