@@ -1,9 +1,8 @@
 -- What a session holds behind a certify: a certificate that is safe, and a verdict that is a dry run's where it is exact.
 use Rattle.std.proofs.Common.{◌≡◌, ℕ, List, Ok, Some, sym, subst}
 use Rattle.model.specs.declared.range.Range.{Range}
-use Rattle.model.specs.declared.side.Side.{Side}
-use Rattle.model.specs.Axes.{Position}
-use Rattle.domain.specs.Lattice.{Lattice}
+use Rattle.model.specs.Envelopes.{Envelope}
+use Rattle.domain.specs.Lattice.{Lattice, Meaning}
 use Rattle.program.specs.declared.table.Program.{Program}
 use Rattle.program.specs.Held.{held}
 use Rattle.program.proofs.Nested.{closed_lines}
@@ -19,17 +18,17 @@ use Rattle.session.specs.Standing.{HasCome, Secure}
 use Rattle.session.proofs.Beginning.{LimitedAll}
 use Rattle.session.proofs.Dry.{few_lines, like_dry}
 
-module _ {S : Type 0} (l : Lattice S) (p : Program) (ranges : Ranges) (sides : List Side) (home : Position) (n : ℕ) where
+module _ {S : Type 0} {M : Meaning S} (l : Lattice M) (p : Program) (ranges : Ranges) (travel : Envelope) (n : ℕ) where
   -- the ranges that certify is lent are those of the session
-  pub certified_secure : (c : Certificate) (r : Run) (lent : List Range) → lent ≡ ranges.each → r ≡ no_run → TheVerdict l (held p) sides home lent n (Ok c) → Promised (held p) sides home lent (Ok c) →
-      ∥ Secure (held p) sides home ranges.each (Some c) r ∥₁
+  pub certified_secure : (c : Certificate) (r : Run) (lent : List Range) → lent ≡ ranges.each → r ≡ no_run → TheVerdict l (held p) travel lent n (Ok c) → Promised (held p) travel lent (Ok c) →
+      ∥ Secure (held p) travel ranges.each (Some c) r ∥₁
   certified_secure c r lent same none v safe = ∣ record {
     closed = closed_lines (held p) p.taken v.is.closes;
-    safe = subst (λ (rs : List Range). Promised (held p) sides home rs (Ok c)) same safe;
-    has_come = subst (λ (r : Run). HasCome (held p) sides home ranges.each r.at r.registers) (sym none) tt;
+    safe = subst (λ (rs : List Range). Promised (held p) travel rs (Ok c)) same safe;
+    has_come = subst (λ (r : Run). HasCome (held p) travel ranges.each r.at r.registers) (sym none) tt;
   } ∣₁
 
-  pub verdict_dry : Exact l → LimitedAll home → (r : Answer) (lent : List Range) → lent ≡ ranges.each → TheVerdict l (held p) sides home lent n r → LikeDry (held p) sides home ranges.each r
+  pub verdict_dry : Exact l travel → LimitedAll travel.home → (r : Answer) (lent : List Range) → lent ≡ ranges.each → TheVerdict l (held p) travel lent n r → LikeDry (held p) travel ranges.each r
   verdict_dry exact limited r lent same v =
-      like_dry l exact (held p) sides home ranges.each n (few_lines p) (passing_lines (held p) p.written) limited ranges.whole ranges.proper r
-      (subst (λ (rs : List Range). TheVerdict l (held p) sides home rs n r) same v)
+      like_dry l travel exact (held p) ranges.each n (few_lines p) (passing_lines (held p) p.written) limited ranges.whole ranges.proper r
+      (subst (λ (rs : List Range). TheVerdict l (held p) travel rs n r) same v)

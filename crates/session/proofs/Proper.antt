@@ -1,11 +1,13 @@
 -- Numbers in ranges, and tables of proper ranges.
-use Rattle.std.proofs.Common.{◌≡◌, ℕ, zero, suc, ◌<◌, Bool, true, false, cond, ◌||◌, List, [], ◌∷◌, length, get_or, set, ℤ, Some, None, Option, ltb, arith}
+use Rattle.std.proofs.Common.{◌≡◌, ℕ, zero, suc, ◌<◌, Bool, true, false, cond, ◌||◌, List, [], ◌∷◌, length, get_or, set, ℤ, Ok, Err, Result, ltb, arith}
 use Rattle.std.proofs.lemmas.Int.{ints}
 use Rattle.std.proofs.lemmas.Bool.{and_parts, and_from}
 use Rattle.std.specs.List.{list_all}
 use Rattle.model.specs.declared.range.Range.{Range}
 use Rattle.model.specs.Environments.{Lies, full, parameters}
 use Rattle.session.specs.Answers.{is_proper, allow_answer}
+use Rattle.session.specs.declared.refusal.AllowRefusal.{AllowRefusal}
+use Rattle.session.specs.declared.refusal.AllowRefusal.TheVariants.{Parameter, Range as OfRange}
 
 pub itself : (n : ℤ) → Lies n (record { lo = n; hi = n })
 itself n = record { low = grind (arith, ints); high = grind (arith, ints) }
@@ -14,10 +16,10 @@ itself n = record { low = grind (arith, ints); high = grind (arith, ints) }
 pub proper_fits : (n : ℤ) (r : Range) → is_proper r ≡ true → Lies n r → Lies n full
 proper_fits n r p h = record { low = grind (arith, ints); high = grind (arith, ints) }
 
-pub allowed_proper : (n : ℕ) (r : Range) → allow_answer n r ≡ None → is_proper r ≡ true
+pub allowed_proper : (n : ℕ) (r : Range) → allow_answer n r ≡ Ok tt → is_proper r ≡ true
 allowed_proper n r e = by (ltb n 1 || ltb parameters n) (is_proper r) e
   where
-    by : (s t : Bool) → cond {A = Option ℕ} s (Some 26) (cond t None (Some 27)) ≡ None → t ≡ true
+    by : (s t : Bool) → cond {A = Result (Unit {0}) AllowRefusal} s (Err Parameter) (cond t (Ok tt) (Err OfRange)) ≡ Ok tt → t ≡ true
     by true t e = cc
     by false true e = cc
     by false false e = cc

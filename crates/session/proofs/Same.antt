@@ -13,5 +13,5 @@ same_session {T} {t} a b p q r s u i = record {
   ranges = r i;
   certificate = s i;
   run = u i;
-  secure = is_prop→PathP (λ j. ∥ Secure (held (q j)) (t.sides (p j)) (t.origin (p j)) (r j).each (s j) (u j) ∥₁) (λ j. ∥∥₁_prop) a.secure b.secure i;
+  secure = is_prop→PathP (λ j. ∥ Secure (held (q j)) (t.envelope (p j)) (r j).each (s j) (u j) ∥₁) (λ j. ∥∥₁_prop) a.secure b.secure i;
 }

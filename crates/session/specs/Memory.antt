@@ -1,10 +1,10 @@
 -- What a session remembers, and what the calls make of it.
-use Rattle.std.specs.Prelude.{ℕ, Bool, true, false, List, [], ℤ, Some, None, Ok, Err, Option, option_map}
+use Rattle.std.specs.Prelude.{ℕ, Bool, true, false, cond, List, [], ℤ, Some, None, Ok, Err, Option, is_ok, option_map}
 use Rattle.model.specs.declared.line.Line.{Line}
 use Rattle.model.specs.declared.range.Range.{Range}
 use Rattle.model.specs.Axes.{Position}
 use Rattle.program.specs.Held.{held}
-use Rattle.program.specs.Entry.{LineAnswer, taken, turned_down, line_answer, lines_after}
+use Rattle.program.specs.Entry.{line_answer, lines_after}
 use Rattle.certify.specs.Certifies.{Answer}
 use Rattle.certify.specs.declared.refusal.CertifyRefusal.TheVariants.{Open, Store, Uncertified}
 use Rattle.runner.specs.declared.run.Run.{Run}
@@ -13,7 +13,7 @@ use Rattle.runner.specs.Plain.{no_run, run_at}
 use Rattle.runner.specs.Steps.{step_of}
 use Rattle.session.specs.declared.session.Session.{Session}
 use Rattle.session.specs.Promises.{Hulls}
-use Rattle.session.specs.Answers.{StartAnswer, begun, not_begun, no_ranges, allow_answer, ranges_after, start_answer}
+use Rattle.session.specs.Answers.{no_ranges, allow_answer, ranges_after, start_answer}
 
 -- the lines of the program, the allowed range of each parameter, the certificate that stands, if one does, and the run
 pub record Memory : Type 0 where
@@ -28,31 +28,13 @@ blank = record { program = []; allowed = no_ranges; certificate = None; run = no
 abbrev pub memory : {T : Type 0} {t : _} → Session T t → Memory
 memory s = record { program = held s.program; allowed = s.ranges.each; certificate = option_map (λ c. c.hulls) s.certificate; run = s.run }
 
--- a line that is taken ends certificate and run, a refused one does not
-abbrev pub unless_taken : {A : Type 0} → LineAnswer → A → A → A
-unless_taken taken gone x = gone
-unless_taken (turned_down k p) gone x = x
-
+-- a line that is taken ends certificate and run
 abbrev pub after_line : Memory → List ℕ → Memory
-after_line m s = record {
-  program = lines_after m.program s;
-  allowed = m.allowed;
-  certificate = unless_taken (line_answer m.program s) None m.certificate;
-  run = unless_taken (line_answer m.program s) no_run m.run;
-}
+after_line m s = cond (is_ok (line_answer m.program s)) (record { program = lines_after m.program s; allowed = m.allowed; certificate = None; run = no_run }) m
 
 -- so does a range that is allowed
-abbrev pub unless_allowed : {A : Type 0} → Option ℕ → A → A → A
-unless_allowed None gone x = gone
-unless_allowed (Some k) gone x = x
-
 abbrev pub after_allow : Memory → ℕ → Range → Memory
-after_allow m n r = record {
-  program = m.program;
-  allowed = ranges_after m.allowed n r;
-  certificate = unless_allowed (allow_answer n r) None m.certificate;
-  run = unless_allowed (allow_answer n r) no_run m.run;
-}
+after_allow m n r = cond (is_ok (allow_answer n r)) (record { program = m.program; allowed = ranges_after m.allowed n r; certificate = None; run = no_run }) m
 
 -- it looked at the lines
 abbrev pub judged : Answer → Bool
@@ -69,17 +51,8 @@ after_certify m (Err Store) = m
 after_certify m (Err (Uncertified f)) = record { program = m.program; allowed = m.allowed; certificate = None; run = no_run }
 
 -- a start that is accepted begins a run at home, in place of one that goes
-abbrev pub unless_begun : {A : Type 0} → StartAnswer → A → A → A
-unless_begun begun new x = new
-unless_begun (not_begun k p) new x = x
-
 abbrev pub after_start : Position → Memory → List ℤ → Memory
-after_start home m vs = record {
-  program = m.program;
-  allowed = m.allowed;
-  certificate = m.certificate;
-  run = unless_begun (start_answer m.certificate m.allowed vs) (run_at 0 (start home vs)) m.run;
-}
+after_start home m vs = cond (is_ok (start_answer m.certificate m.allowed vs)) (record { program = m.program; allowed = m.allowed; certificate = m.certificate; run = run_at 0 (start home vs) }) m
 
 abbrev pub after_step : Memory → Memory
 after_step m = record { program = m.program; allowed = m.allowed; certificate = m.certificate; run = (step_of m.program m.run).run }

@@ -4,8 +4,8 @@ use Rattle.std.specs.List.{AllByRecursion}
 use Rattle.model.specs.declared.ending.Ending.TheVariants.{Ended, Stopped}
 use Rattle.model.specs.declared.line.Line.{Line}
 use Rattle.model.specs.declared.range.Range.{Range}
-use Rattle.model.specs.declared.side.Side.{Side}
 use Rattle.model.specs.Axes.{Position}
+use Rattle.model.specs.Envelopes.{Envelope}
 use Rattle.model.specs.Environments.{Env}
 use Rattle.model.specs.Programs.{Closed}
 use Rattle.model.specs.Whole.{TheEnding}
@@ -24,17 +24,17 @@ use Rattle.session.specs.Stepping.{step_done}
 
 -- ---- certify
 -- a verdict says what a dry run of so many steps comes to; a refusal says nothing
-abbrev pub DryEnds : List Line → List Side → ℕ → Env → Answer → Type 0
-DryEnds lines sides k e (Ok c) = TheEnding lines sides k 0 e Ended
-DryEnds lines sides k e (Err Open) = Unit {0}
-DryEnds lines sides k e (Err Store) = Unit {0}
-DryEnds lines sides k e (Err (Uncertified f)) = TheEnding lines sides k 0 e (Stopped f)
+abbrev pub DryEnds : List Line → Envelope → ℕ → Env → Answer → Type 0
+DryEnds lines travel k e (Ok c) = TheEnding lines travel k 0 e Ended
+DryEnds lines travel k e (Err Open) = Unit {0}
+DryEnds lines travel k e (Err Store) = Unit {0}
+DryEnds lines travel k e (Err (Uncertified f)) = TheEnding lines travel k 0 e (Stopped f)
 
 -- where a closed program has no loop, and each parameter one value that is allowed, a dry run with these values and a step for each line
 -- is accepted, and comes to what the verdict says
-abbrev pub LikeDry : List Line → List Side → Position → List Range → Answer → Type 0
-LikeDry lines sides home allowed r = (vs : List ℤ) → AllByRecursion NoWhile lines → allowed ≡ map single vs → Closed lines →
-    (dry_answer lines vs (length lines) ≡ None) × DryEnds lines sides (length lines) (start home vs) r
+abbrev pub LikeDry : List Line → Envelope → List Range → Answer → Type 0
+LikeDry lines travel allowed r = (vs : List ℤ) → AllByRecursion NoWhile lines → allowed ≡ map single vs → Closed lines →
+    (dry_answer lines vs (length lines) ≡ Ok tt) × DryEnds lines travel (length lines) (start travel.home vs) r
 
 -- ---- step
 -- the hull of what moves command on each axis, if any
@@ -50,11 +50,11 @@ InCertificate p None = ⊥
 InCertificate p (Some hs) = InHulls p hs
 
 -- what is commanded lies in the travel and in the certificate that stands
-abbrev pub Inside : (Position → Type 0) → Option Hulls → Progress → Type 0
-Inside region c WentOn = Unit {0}
-Inside region c (Commanded p) = region p × InCertificate p c
-Inside region c HasEnded = Unit {0}
+abbrev pub Inside : Envelope → Option Hulls → Progress → Type 0
+Inside travel c WentOn = Unit {0}
+Inside travel c (Commanded p) = travel.region p × InCertificate p c
+Inside travel c HasEnded = Unit {0}
 
 -- the program is closed, and its plain run makes this step
 abbrev pub StepsPlainly : List Line → Run → Progress → Run → Type 0
-StepsPlainly lines r s t = Closed lines × PlainStep lines r (step_done s) t
+StepsPlainly lines r s t = Closed lines × PlainStep lines r (Ok (step_done s)) t

@@ -1,6 +1,6 @@
 // The table of allowed ranges.
 ghost use Rattle.std.specs.Prelude.{◌≡◌, false, is_ok};
-ghost use Rattle.session.specs.Answers.{no_ranges, allow_said, allow_answer, ranges_after, outside_from};
+ghost use Rattle.session.specs.Answers.{no_ranges, allow_answer, ranges_after, outside_from};
 
 use crate::ranges::{Ranges, check_range};
 use crate::refusal::AllowRefusal;
@@ -8,7 +8,7 @@ use model::range::Range;
 use model::register::PARAMETERS;
 
 impl Ranges {
-    // Each parameter may be 0 alone.
+    /// Each parameter may be 0 alone: `no_ranges` in `specs/Answers`.
     pub fn new() -> Ranges
         ensures { result.each ≡ no_ranges }
     {
@@ -17,15 +17,17 @@ impl Ranges {
         }
     }
 
+    // The ranges, parameter by parameter.
     pub(crate) fn each(&self) -> &[Range; PARAMETERS]
         ensures { result.now ≡ self.now.each }
     {
         &self.each
     }
 
-    // Allows the parameter, from 1, a range, or says why not and changes nothing.
+    /// Allows the parameter, from 1, the range in place of its former one. Refuses with 26 a number of no parameter, and with 27 ends
+    /// that are out of order or beyond 10,000,000 either way, by `allow_answer` in `specs/Answers`; then nothing changes.
     pub fn allow(&mut self, parameter: u32, range: Range) -> Result<(), AllowRefusal>
-        ensures says { allow_said result ≡ allow_answer parameter range }
+        ensures says { result ≡ allow_answer parameter range }
         ensures does { self.new.each ≡ ranges_after self.old.each parameter range }
         ensures same { is_ok result ≡ false → self.new ≡ self.old }
     {

@@ -1,11 +1,13 @@
 // The calls of a session on its program. Each says of itself all that it leaves: the calls are read one by one.
-ghost use Rattle.std.specs.Prelude.{◌≡◌, true, false, length, is_ok, IfOk};
+ghost use Rattle.std.specs.Prelude.{◌≡◌, false, length, Ok, is_ok, IfOk};
 ghost use Rattle.std.specs.List.{list_all};
-ghost use Rattle.model.specs.Environments.{fit};
+ghost use Rattle.std.specs.Result.{result_and};
+ghost use Rattle.model.specs.Environments.{fit, registers};
 ghost use Rattle.model.specs.Whole.{TheEnding};
-ghost use Rattle.program.specs.Entry.{line_said, line_answer};
+ghost use Rattle.domain.specs.Tracking.{LosesNothing};
+ghost use Rattle.program.specs.Entry.{line_answer};
 ghost use Rattle.runner.specs.Drying.{start};
-ghost use Rattle.session.specs.Answers.{allow_said, allow_answer, dry_said, dry_answer};
+ghost use Rattle.session.specs.Answers.{allow_answer, dry_answer};
 ghost use Rattle.certify.specs.Certifies.{TheVerdict, Promised, Untouched};
 ghost use Rattle.session.specs.Memory.{memory, blank, after_line, after_allow, after_certify, judged};
 ghost use Rattle.session.specs.Promises.{LikeDry};
@@ -32,7 +34,7 @@ fn all_fit(values: &[i32]) -> bool
 }
 
 impl<T: Travel> Session<T> {
-    // No line, and each parameter allowed 0 alone.
+    /// A session with no line, no certificate and no run, and each parameter allowed 0 alone.
     pub fn new(travel: T) -> Session<T>
         ensures blank { memory result ≡ blank }
         ensures travel { result.travel ≡ travel }
@@ -46,9 +48,10 @@ impl<T: Travel> Session<T> {
         }
     }
 
-    // Adds a line.
+    /// Adds the text as the next line of the program, and ends certificate and run. Refuses as `Program::line` does, by `line_answer` in
+    /// `program/specs/Entry`.
     pub fn line(&mut self, text: &[u8]) -> Result<(), LineRefusal>
-        ensures says { line_said result ≡ line_answer (memory self.old).program text.now }
+        ensures says { result ≡ line_answer (memory self.old).program text.now }
         ensures does { memory self.new ≡ after_line (memory self.old) text.now }
         ensures travel { self.new.travel ≡ self.old.travel }
         ensures untouched { is_ok result ≡ false → self.new ≡ self.old }
@@ -59,9 +62,10 @@ impl<T: Travel> Session<T> {
         Ok(())
     }
 
-    // Allows a parameter a range.
+    /// Allows the parameter, from 1, the range, and ends certificate and run. Refuses with 26 or 27 as `Ranges::allow` does, by
+    /// `allow_answer` in `specs/Answers`.
     pub fn allow(&mut self, parameter: u32, range: Range) -> Result<(), AllowRefusal>
-        ensures says { allow_said result ≡ allow_answer parameter range }
+        ensures says { result ≡ allow_answer parameter range }
         ensures does { memory self.new ≡ after_allow (memory self.old) parameter range }
         ensures travel { self.new.travel ≡ self.old.travel }
         ensures untouched { is_ok result ≡ false → self.new ≡ self.old }
@@ -72,7 +76,7 @@ impl<T: Travel> Session<T> {
         Ok(())
     }
 
-    // Forgets lines, ranges, certificate and run.
+    /// Makes the session as a new one on its travel.
     pub fn wipe(&mut self)
         ensures does { memory self.new ≡ blank }
         ensures travel { self.new.travel ≡ self.old.travel }
@@ -83,11 +87,16 @@ impl<T: Travel> Session<T> {
         self.certificate = None;
     }
 
-    // The verdict on the program, in the domain at hand, with one lent state for each block.
+    /// Judges the program in the domain of the lent states, one for each block, and ends the run. A certificate stands from then on: under
+    /// it no run from home and allowed values faults, or leaves the travel or the certificate. Refuses with 31 an open block and with 32
+    /// too few states, and then changes nothing; with 33 and the lowest line that fails, and then no certificate stands. By `TheVerdict`
+    /// in `certify/specs/Certifies`.
     pub fn certify<D: Domain>(&mut self, store: &mut [D]) -> Result<Certificate, CertifyRefusal>
-        ensures verdict { TheVerdict D.lattice (memory self.old).program (T.sides self.old.travel) (T.origin self.old.travel) (memory self.old).allowed (length store.old) result }
-        ensures promised { Promised (memory self.old).program (T.sides self.old.travel) (T.origin self.old.travel) (memory self.old).allowed result }
-        ensures exact { D.exact ≡ true → LikeDry (memory self.old).program (T.sides self.old.travel) (T.origin self.old.travel) (memory self.old).allowed result }
+        ensures verdict { TheVerdict D.lattice (memory self.old).program (T.envelope self.old.travel)
+            (memory self.old).allowed (length store.old) result }
+        ensures promised { Promised (memory self.old).program (T.envelope self.old.travel) (memory self.old).allowed result }
+        ensures exact { LosesNothing registers D.lattice →
+            LikeDry (memory self.old).program (T.envelope self.old.travel) (memory self.old).allowed result }
         ensures does { memory self.new ≡ after_certify (memory self.old) result }
         ensures travel { self.new.travel ≡ self.old.travel }
         ensures store { Untouched result store.old store.new }
@@ -108,10 +117,13 @@ impl<T: Travel> Session<T> {
         result
     }
 
-    // What at most so many steps from home, with these values, would come to.
+    /// What at most so many steps from home, with these values of #1 to #6, would come to: the one ending of the plain run, `TheEnding` in
+    /// `model/specs/Whole`. Refuses with 31 an open block, with 44 more steps than `MAX_STEPS`, and with 45 a value beyond 10,000,000
+    /// either way, by `dry_answer` in `specs/Answers`.
     pub fn dry(&self, values: [i32; PARAMETERS], steps: u32) -> Result<Ending, DryRefusal>
-        ensures says { dry_said result ≡ dry_answer (memory self.now).program values steps }
-        ensures ending { IfOk result (TheEnding (memory self.now).program (T.sides self.now.travel) steps 0 (start (T.origin self.now.travel) values)) }
+        ensures says { result_and result (Ok tt) ≡ dry_answer (memory self.now).program values steps }
+        ensures ending { IfOk result (TheEnding (memory self.now).program (T.envelope self.now.travel) steps 0
+            (start (T.envelope self.now.travel).home values)) }
     {
         if !self.program.is_closed() {
             return Err(DryRefusal::Open);
