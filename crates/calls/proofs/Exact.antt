@@ -1,59 +1,74 @@
 -- A verdict that is like the dry run's is answered like it.
-use Rattle.std.proofs.Common.{◌≡◌, ℕ, ◌<◌, ◌≤◌, true, List, length, ℤ, Some, None, Ok, Err, Option, sym, refl, ap, ◌∙◌, subst, true≢false, arith}
-use Rattle.model.specs.Axes.{Position}
-use Rattle.model.specs.Blocks.{closed, labels}
+use Rattle.std.proofs.Common.{◌≡◌, ℕ, ◌<◌, ◌≤◌, true, List, length, ℤ, Ok, Err, IfOk, Result, sym, refl, ap, ◌∙◌, true≢false, arith}
+use Rattle.std.specs.Result.{result_and}
+use Rattle.model.specs.Blocks.{closed}
+use Rattle.model.specs.Envelopes.{Envelope}
 use Rattle.model.specs.Programs.{Closed}
+use Rattle.model.specs.Refusals.{Told, failure}
+use Rattle.model.specs.Whole.{TheEnding}
+use Rattle.model.specs.declared.ending.Ending.{Ending}
 use Rattle.model.specs.declared.ending.Ending.TheVariants.{Ended, Stopped}
 use Rattle.model.specs.declared.ending.Failure.{Failure}
 use Rattle.model.specs.declared.line.Line.{Line}
 use Rattle.model.specs.declared.range.Range.{Range}
-use Rattle.model.specs.declared.side.Side.{Side}
-use Rattle.domain.specs.Lattice.{Lattice}
-use Rattle.certify.specs.Certifies.{Answer, Certifies}
+use Rattle.domain.specs.Lattice.{Lattice, Meaning}
+use Rattle.sweep.specs.Blocks.{states_for}
+use Rattle.certify.specs.Certifies.{Answer as Verdict, Certifies}
+use Rattle.certify.specs.Refusals.{certify_refusal}
 use Rattle.certify.specs.declared.refusal.CertifyRefusal.TheVariants.{Open, Store, Uncertified}
 use Rattle.runner.specs.Drying.{start}
 use Rattle.session.specs.Answers.{dry_answer}
 use Rattle.session.specs.Promises.{DryEnds, LikeDry}
-use Rattle.calls.specs.Law.{DryBy, Dries, SameAs, Standing, Exactly}
-use Rattle.calls.specs.Said.{Said, came, refused, failure, by_verdict}
+use Rattle.session.specs.Refusals.{dry_refusal}
+use Rattle.session.specs.declared.refusal.DryRefusal.{DryRefusal}
+use Rattle.calls.specs.Events.{by_dry}
+use Rattle.calls.specs.Law.{Answer, comes_to, refused, by_verdict, AnswersDry, not_run, is_run, Agree, Standing, AgreesWithDry}
 
-stopped_by : (f g : Failure) → refused 33 (failure f) ≡ refused 33 (failure g) → came (Stopped f) ≡ came (Stopped g)
-stopped_by f g e = let same : f ≡ g = cc in ap (λ (h : Failure). came (Stopped h)) same
+stopped_by : (f g : Failure) → refused (certify_refusal (Uncertified f)) ≡ refused (certify_refusal (Uncertified g)) → comes_to (Stopped f) ≡ comes_to (Stopped g)
+stopped_by f g e =
+    let told : certify_refusal (Uncertified f) ≡ certify_refusal (Uncertified g) = cc in
+    let detail : failure f ≡ failure g = ap (λ (t : Told). t.detail) told in
+    let same : f ≡ g = cc in
+    ap (λ (h : Failure). comes_to (Stopped h)) same
 
-refused_by : (f g : Failure) → came (Stopped f) ≡ came (Stopped g) → refused 33 (failure f) ≡ refused 33 (failure g)
-refused_by f g e = let same : f ≡ g = cc in ap (λ (h : Failure). refused 33 (failure h)) same
+refused_by : (f g : Failure) → comes_to (Stopped f) ≡ comes_to (Stopped g) → refused (certify_refusal (Uncertified f)) ≡ refused (certify_refusal (Uncertified g))
+refused_by f g e = let same : f ≡ g = cc in ap (λ (h : Failure). refused (certify_refusal (Uncertified h))) same
 
-module _ {S : Type 0} (l : Lattice S) (lines : List Line) (sides : List Side) (home : Position) (allowed : List Range) (n : ℕ) (closes : closed lines ≡ true) (enough : length (labels lines) ≤ n) where
-  same_as : (r : Answer) (k : ℕ) (vs : List ℤ) → Certifies l lines sides home allowed n r → DryEnds lines sides k (start home vs) r → (b : Said) × DryBy sides home lines vs k None b × SameAs (by_verdict r) b
-  same_as (Ok c) k vs r t = (
-    came Ended,
-    (Ended, t, refl),
+module _ {S : Type 0} {M : Meaning S} (l : Lattice M) (lines : List Line) (travel : Envelope) (allowed : List Range) (n : ℕ) (closes : closed lines ≡ true) (enough : states_for lines ≤ n) where
+  same_as : (v : Verdict) (k : ℕ) (vs : List ℤ) → Certifies l lines travel allowed n v → dry_answer lines vs k ≡ Ok tt → DryEnds lines travel k (start travel.home vs) v
+      → (dried : Answer) × AnswersDry travel lines vs k dried × Agree (by_verdict v) dried
+  same_as (Ok c) k vs r e t = (comes_to Ended, is_run e t, record { well = (λ h. refl, λ h. refl); fails = λ f. (λ h. absurd (cc), λ h. absurd (cc)) })
+  same_as (Err Open) k vs r e t = absurd (true≢false (sym closes ∙ r))
+  same_as (Err Store) k vs r e t = let few : n < states_for lines = r.1 in absurd (omega arith)
+  same_as (Err (Uncertified f)) k vs r e t = (
+    comes_to (Stopped f),
+    is_run e t,
     record {
-      both = (λ h. refl, λ h. refl);
-      neither = λ f. (λ h. absurd (let z : ◌≡◌ {A = ℕ} 0 1 = cc in omega arith), λ h. absurd (let z : ◌≡◌ {A = ℕ} 0 1 = cc in omega arith));
+      well = (λ h. absurd (true≢false (sym h)), λ h. absurd (cc));
+      fails = λ g. (λ h. stopped_by f g h, λ h. refused_by f g h);
     },
   )
-  same_as (Err Open) k vs r t = absurd (true≢false (sym closes ∙ r))
-  same_as (Err Store) k vs r t = let few : n < length (labels lines) = r.1 in absurd (omega arith)
-  same_as (Err (Uncertified f)) k vs r t = (
-    came (Stopped f),
-    (Stopped f, t, refl),
-    record {
-      both = (λ h. absurd (true≢false (sym h)), λ h. absurd (let z : ◌≡◌ {A = ℕ} 0 1 = cc in omega arith));
-      neither = λ g. (λ h. stopped_by f g h, λ h. refused_by f g h);
-    },
-  )
 
-pub exactly : {S : Type 0} (l : Lattice S) (w : Standing) (sides : List Side) (home : Position) (n : ℕ) (r : Answer) → (closed w.program ≡ true → Closed w.program) → Certifies l w.program sides home w.allowed n r → LikeDry w.program sides home w.allowed r → Exactly sides home w n (by_verdict r)
-exactly l w sides home n r closed_lines k like vs closes plain ranges enough =
-    let dried = like vs plain ranges (closed_lines closes) in
-    let same = same_as l w.program sides home w.allowed n closes enough r (length w.program) vs k dried.1 in
-    (same.0, subst (λ (d : Option ℕ). DryBy sides home w.program vs (length w.program) d same.0) (sym dried.0) same.1, same.2)
+pub agrees : {S : Type 0} {M : Meaning S} (l : Lattice M) (travel : Envelope) (w : Standing) (n : ℕ) (v : Verdict) → (closed w.program ≡ true → Closed w.program) → Certifies l w.program travel w.allowed n v
+    → LikeDry w.program travel w.allowed v → AgreesWithDry travel w n (by_verdict v)
+agrees l travel w n v closed_lines k like vs one =
+    let dried = like vs one.straight one.values (closed_lines one.closes) in
+    same_as l w.program travel w.allowed n one.closes one.enough v (length w.program) vs k dried.0 dried.1
 
--- a dry run has one answer
-pub dries_one : (sides : List Side) (home : Position) (w : Standing) (vs : List ℤ) (k : ℕ) (a b : Said) → Dries sides home w vs k a → Dries sides home w vs k b → a ≡ b
-dries_one sides home w vs k a b = by (dry_answer w.program vs k)
-  where
-    by : (d : Option ℕ) → DryBy sides home w.program vs k d a → DryBy sides home w.program vs k d b → a ≡ b
-    by None p q = p.2 ∙ ap came (q.1.only p.0 p.1.is) ∙ sym q.2
-    by (Some n) p q = p ∙ sym q
+-- ---- a dry run has an answer, and one only
+module _ (travel : Envelope) (lines : List Line) (vs : List ℤ) (k : ℕ) where
+  pub dries : (r : Result Ending DryRefusal) → result_and r (Ok tt) ≡ dry_answer lines vs k → IfOk r (TheEnding lines travel k 0 (start travel.home vs)) → AnswersDry travel lines vs k (by_dry r)
+  dries (Ok o) says ending = is_run (sym says) ending
+  dries (Err e) says ending = not_run (sym says)
+
+  both_ways : {P : Type 0} {x : DryRefusal} → dry_answer lines vs k ≡ Err x → dry_answer lines vs k ≡ Ok tt → P
+  both_ways {x = x} e f = let z : ◌≡◌ {A = Result (Unit {0}) DryRefusal} (Err x) (Ok tt) = sym e ∙ f in absurd (cc)
+
+  pub dries_one : {a b : Answer} → AnswersDry travel lines vs k a → AnswersDry travel lines vs k b → a ≡ b
+  dries_one (not_run {why = x} e) (not_run {why = y} f) =
+      let z : ◌≡◌ {A = Result (Unit {0}) DryRefusal} (Err x) (Err y) = sym e ∙ f in
+      let same : x ≡ y = cc in
+      ap (λ (w : DryRefusal). refused (dry_refusal w)) same
+  dries_one (not_run e) (is_run f u) = both_ways e f
+  dries_one (is_run e t) (not_run f) = both_ways f e
+  dries_one (is_run {end = a} e t) (is_run f u) = ap comes_to (u.only a t.is)

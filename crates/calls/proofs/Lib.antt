@@ -1,5 +1,6 @@
-pub mod LinesAfter
-pub mod Onwards
+pub mod Programs
+pub mod Computed
+pub mod NextPlaces
 pub mod Remembered
 pub mod Lawful
 pub mod Consequences

@@ -2,7 +2,7 @@
 use Rattle.std.proofs.Common.{◌≡◌, ℕ, zero, suc, ◌+◌, ◌<◌, List, [], ◌∷◌, ◌++◌, length, get_or, take, drop, set, sym, refl, ap, ◌∙◌, append_assoc, add-one, arith}
 use Rattle.std.proofs.lemmas.List.{append-nil}
 use Rattle.calls.specs.Law.{Event}
-use Rattle.calls.specs.Answers.{recorded}
+use Rattle.calls.specs.Events.{recorded}
 
 module _ {C A : Type 0} (f : C → C → A → List Event) where
   recorded_suc : (cs ds : List C) (rs : List A) (n : ℕ) (o d : C) (r : A) → n < length cs → n < length ds → n < length rs → drop n ds ≡ drop n cs

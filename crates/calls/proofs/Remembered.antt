@@ -1,74 +1,94 @@
 -- What a session remembers is what stands after the calls before, call by call.
-use Rattle.std.proofs.Common.{◌≡◌, ℕ, Bool, is_some, true, false, cond, List, ◌++◌, ℤ, Some, None, Option, ◌↔◌, sym, refl, ap, ◌∙◌, subst, ap₂, subst₂, true≢false}
-use Rattle.grammar.specs.Answer.{answer as reading_of}
+use Rattle.std.proofs.Common.{◌≡◌, ℕ, ◌-◌, Bool, is_some, is_ok, true, false, cond, List, [], ◌∷◌, ℤ, Some, None, Ok, Err, Option, Result, ◌↔◌, sym, refl, ap, ◌∙◌, subst, ap₂, subst₂, set, true≢false}
+use Rattle.grammar.specs.Law.{TheAnswer}
+use Rattle.grammar.specs.declared.refusal.Refusal.{Refusal as NoLine}
 use Rattle.model.specs.Axes.{Position}
 use Rattle.model.specs.Environments.{Env}
 use Rattle.model.specs.declared.line.Line.{Line}
 use Rattle.model.specs.declared.range.Range.{Range}
 use Rattle.model.proofs.Standing.{some_one, none_some}
-use Rattle.program.specs.Entry.{LineAnswer, taken, turned_down}
+use Rattle.program.specs.Numbers.{line_refusal}
+use Rattle.program.specs.declared.refusal.LineRefusal.{LineRefusal}
 use Rattle.runner.specs.Drying.{start as start_of}
 use Rattle.runner.specs.Plain.{no_run, run_at}
 use Rattle.runner.specs.Steps.{by_place}
-use Rattle.runner.specs.declared.run.Run.{Run as RunnerRun}
-use Rattle.session.specs.Answers.{StartAnswer, begun, not_begun, ranges_by}
-use Rattle.session.specs.Memory.{Memory, blank, unless_begun, unless_taken, unless_allowed, after_step}
+use Rattle.runner.specs.declared.run.Run.{Run}
+use Rattle.session.specs.Memory.{Memory, blank, after_step}
 use Rattle.session.specs.Promises.{Hulls}
-use Rattle.calls.specs.Law.{Call, Standing, RunBy, Onward, line_of, program_by, allowed_by, certificate_by, started_by}
-use Rattle.calls.specs.Said.{Said, by_line, by_number, by_start}
-use Rattle.calls.specs.Law.{line, allow, wipe, start, step}
-use Rattle.calls.specs.Said.{done}
-use Rattle.calls.specs.Playing.{Leads}
-use Rattle.calls.proofs.LinesAfter.{Grown}
-use Rattle.calls.proofs.Onwards.{one_place}
+use Rattle.session.specs.Refusals.{allow_refusal, start_refusal}
+use Rattle.session.specs.declared.refusal.AllowRefusal.{AllowRefusal}
+use Rattle.session.specs.declared.refusal.StartRefusal.{StartRefusal}
+use Rattle.calls.specs.Law.{Answer, done, done_or, accepted, judges, Event, event, AnyDomain, line, allow, wipe, certify, start, step, dry, TheProgram, allowed_after, hulls_in, certificate_after, started_after, NextPlace, RunIs}
+use Rattle.calls.specs.Playing.{Leads, after_verdict}
+use Rattle.calls.proofs.Programs.{Grown, no_program, program_wiped, program_refused, program_grown}
+use Rattle.calls.proofs.NextPlaces.{one_place}
 
--- what stands after a call
-abbrev pub then_stands : Position → Call → Said → Standing → Standing
-then_stands home c a w = record { program = program_by c a w.program; allowed = allowed_by c a w.allowed; certificate = certificate_by c a w.certificate; started = started_by c a w.started; run = RunBy home c a w.program w.run }
+-- this memory of what stands after the past
+pub record Remembers (home : Position) (past : List Event) (m : Memory) : Type 0 where
+  pub program : TheProgram past m.program
+  pub allowed : m.allowed ≡ allowed_after past
+  pub certificate : m.certificate ≡ certificate_after past
+  pub started : is_some m.run.at ≡ started_after past
+  pub goes : (i : ℕ) (e : Env) → m.run ≡ run_at i e → RunIs home m.program past i e
+  pub stands : (i : ℕ) (e : Env) → RunIs home m.program past i e → m.run ≡ run_at i e
 
--- this memory of what stands
-pub record Remembers (m : Memory) (w : Standing) : Type 0 where
-  pub program : m.program ≡ w.program
-  pub allowed : m.allowed ≡ w.allowed
-  pub certificate : m.certificate ≡ w.certificate
-  pub started : is_some m.run.at ≡ w.started
-  pub goes : (i : ℕ) (e : Env) → m.run ≡ run_at i e → w.run i e
-  pub stands : (i : ℕ) (e : Env) → w.run i e → m.run ≡ run_at i e
-
-pub none_goes : {P : Type 0} {i : ℕ} {e : Env} → no_run ≡ run_at i e → P
-none_goes q = absurd (none_some (ap (λ (r : RunnerRun). r.at) q))
+none_goes : {P : Type 0} {i : ℕ} {e : Env} → no_run ≡ run_at i e → P
+none_goes q = absurd (none_some (ap (λ (r : Run). r.at) q))
 
 places : {i j : ℕ} {e f : Env} → run_at i e ≡ run_at j f → (i ≡ j) × (e ≡ f)
-places q = (some_one (ap (λ (r : RunnerRun). r.at) q), ap (λ (r : RunnerRun). r.registers) q)
+places q = (some_one (ap (λ (r : Run). r.at) q), ap (λ (r : Run). r.registers) q)
 
-run_stands : (r : RunnerRun) (n : ℕ) → r.at ≡ Some n → r ≡ run_at n r.registers
+run_stands : (r : Run) (n : ℕ) → r.at ≡ Some n → r ≡ run_at n r.registers
 run_stands r n q = ap (λ (o : Option ℕ). record { at = o; registers = r.registers }) q
 
-module _ (home : Position) (m : Memory) (w : Standing) (r : Remembers m w) where
-  -- ---- line, allow, wipe, certify
-  pub line_by : (s : List ℕ) (a : LineAnswer) (ys : List Line) → Grown m.program (reading_of s) a ys
-      → Remembers (record { program = ys; allowed = m.allowed; certificate = unless_taken a None m.certificate; run = unless_taken a no_run m.run }) (then_stands home (line s) (by_line a) w)
-  line_by s taken ys q = record { program = q ∙ ap (λ (xs : List Line). xs ++ line_of (reading_of s)) r.program; allowed = r.allowed; certificate = refl; started = refl; goes = λ i e k. none_goes k; stands = λ i e k. absurd k }
-  line_by s (turned_down k p) ys q = record { program = q ∙ r.program; allowed = r.allowed; certificate = r.certificate; started = r.started; goes = r.goes; stands = r.stands }
+-- without a run
+abbrev At_rest : List Line → List Range → Option Hulls → Memory
+At_rest lines ranges certificate = record { program = lines; allowed = ranges; certificate = certificate; run = no_run }
 
-  pub allow_by : (n : ℕ) (x : Range) (o : Option ℕ)
-      → Remembers (record { program = m.program; allowed = ranges_by o m.allowed n x; certificate = unless_allowed o None m.certificate; run = unless_allowed o no_run m.run }) (then_stands home (allow n x) (by_number o) w)
-  allow_by n x None = record { program = r.program; allowed = ap (λ (rs : List Range). ranges_by None rs n x) r.allowed; certificate = refl; started = refl; goes = λ i e k. none_goes k; stands = λ i e k. absurd k }
-  allow_by n x (Some k) = r
+at_rest : (home : Position) (past : List Event) (lines : List Line) (ranges : List Range) (certificate : Option Hulls) → TheProgram past lines → ranges ≡ allowed_after past → certificate ≡ certificate_after past → started_after past ≡ false
+    → ((i : ℕ) (e : Env) → RunIs home lines past i e → ⊥) → Remembers home past (At_rest lines ranges certificate)
+at_rest home past lines ranges certificate p q c s none = record { program = p; allowed = q; certificate = c; started = sym s; goes = λ i e k. none_goes k; stands = λ i e k. absurd (none i e k) }
 
-  pub wipe_by : Remembers blank (then_stands home wipe done w)
-  wipe_by = record { program = refl; allowed = refl; certificate = refl; started = refl; goes = λ i e k. none_goes k; stands = λ i e k. absurd k }
+pub nothing_remembered : (home : Position) → Remembers home [] blank
+nothing_remembered home = at_rest home [] [] _ None no_program refl refl refl (λ i e h. h)
 
-  pub verdict_by : (b : Bool) (hs : Option Hulls)
-      → Remembers (cond b (record { program = m.program; allowed = m.allowed; certificate = hs; run = no_run }) m) (record { program = w.program; allowed = w.allowed; certificate = cond b hs w.certificate; started = cond b false w.started; run = λ i e. cond b ⊥ (w.run i e) })
-  verdict_by true hs = record { program = r.program; allowed = r.allowed; certificate = refl; started = refl; goes = λ i e k. none_goes k; stands = λ i e k. absurd k }
-  verdict_by false hs = r
+module _ (home : Position) (past : List Event) (m : Memory) (r : Remembers home past m) where
+  -- ---- line, allow, wipe
+  pub line_by : (text : List ℕ) (reading : Result Line NoLine) (a : Result (Unit {0}) LineRefusal) (ys : List Line) → TheAnswer text reading → Grown m.program reading a ys
+      → Remembers home (event (line text) (done_or line_refusal a) ∷ past) (cond (is_ok a) (At_rest ys m.allowed None) m)
+  line_by text reading (Ok u) ys t g = at_rest home _ ys m.allowed None (program_grown past m.program r.program text u reading ys t g) r.allowed refl refl (λ i e h. h)
+  line_by text reading (Err x) ys t g = record { program = program_refused past m.program r.program text x; allowed = r.allowed; certificate = r.certificate; started = r.started; goes = r.goes; stands = r.stands }
 
-  -- ---- start, step
-  pub start_by : (vs : List ℤ) (a : StartAnswer)
-      → Remembers (record { program = m.program; allowed = m.allowed; certificate = m.certificate; run = unless_begun a (run_at 0 (start_of home vs)) m.run }) (then_stands home (start vs) (by_start a) w)
-  start_by vs begun = record { program = r.program; allowed = r.allowed; certificate = r.certificate; started = refl; goes = λ i e q. places (sym q); stands = λ i e h. ap₂ run_at (sym h.0) (sym h.1) }
-  start_by vs (not_begun k p) = r
+  pub allow_by : (n : ℕ) (x : Range) (a : Result (Unit {0}) AllowRefusal)
+      → Remembers home (event (allow n x) (done_or allow_refusal a) ∷ past) (cond (is_ok a) (At_rest m.program (cond (is_ok a) (set m.allowed (n - 1) x) m.allowed) None) m)
+  allow_by n x (Ok u) = at_rest home _ m.program _ None (record { is = r.program.is; only = r.program.only }) (ap (λ (rs : List Range). set rs (n - 1) x) r.allowed) refl refl (λ i e h. h)
+  allow_by n x (Err y) = record { program = record { is = r.program.is; only = r.program.only }; allowed = r.allowed; certificate = r.certificate; started = r.started; goes = r.goes; stands = r.stands }
+
+  pub wipe_by : Remembers home (event wipe done ∷ past) blank
+  wipe_by = at_rest home _ [] _ None (program_wiped past done) refl refl refl (λ i e h. h)
+
+  -- ---- certify
+  pub certify_by : (d : AnyDomain) (n : ℕ) (a : Answer) → Remembers home (event (certify d n) a ∷ past) (after_verdict m a)
+  certify_by d n a = by (judges a) refl
+    where
+      by : (b : Bool) → judges a ≡ b → Remembers home (event (certify d n) a ∷ past) (cond b (At_rest m.program m.allowed (hulls_in a)) m)
+      by true q =
+          at_rest home _ m.program m.allowed (hulls_in a) (record { is = r.program.is; only = r.program.only }) r.allowed (sym (ap (λ (c : Bool). cond c (hulls_in a) (certificate_after past)) q)) (ap (λ (c : Bool). cond c false (started_after past)) q)
+          (λ i e h. subst (λ (c : Bool). cond c ⊥ (RunIs home m.program past i e)) q h)
+      by false q = record {
+        program = record { is = r.program.is; only = r.program.only };
+        allowed = r.allowed;
+        certificate = r.certificate ∙ sym (ap (λ (c : Bool). cond c (hulls_in a) (certificate_after past)) q);
+        started = r.started ∙ sym (ap (λ (c : Bool). cond c false (started_after past)) q);
+        goes = λ i e k. subst (λ (c : Bool). cond c ⊥ (RunIs home m.program past i e)) (sym q) (r.goes i e k);
+        stands = λ i e h. r.stands i e (subst (λ (c : Bool). cond c ⊥ (RunIs home m.program past i e)) q h);
+      }
+
+  -- ---- start, step, dry
+  pub start_by : (vs : List ℤ) (a : Result (Unit {0}) StartRefusal)
+      → Remembers home (event (start vs) (done_or start_refusal a) ∷ past) (cond (is_ok a) (record { program = m.program; allowed = m.allowed; certificate = m.certificate; run = run_at 0 (start_of home vs) }) m)
+  start_by vs (Ok u) = record { program = record { is = r.program.is; only = r.program.only }; allowed = r.allowed; certificate = r.certificate; started = refl; goes = λ i e q. places (sym q); stands = λ i e h. ap₂ run_at (sym h.0) (sym h.1) }
+  start_by vs (Err y) = record { program = record { is = r.program.is; only = r.program.only }; allowed = r.allowed; certificate = r.certificate; started = r.started; goes = r.goes; stands = r.stands }
 
   abbrev Goes : Type 0
   Goes = (i : ℕ) × (e : Env) × (m.run ≡ run_at i e)
@@ -82,30 +102,39 @@ module _ (home : Position) (m : Memory) (w : Standing) (r : Remembers m w) where
   stays_put None p none = ap (λ (o : Option ℕ). (by_place m.program m.run o).run) p
   stays_put (Some n) p none = absurd (none (n, m.run.registers, run_stands m.run n p))
 
-  pub step_by : (b : Bool) → (b ≡ true) ↔ Goes → Leads m step
-      → Remembers (after_step m) (record { program = w.program; allowed = w.allowed; certificate = w.certificate; started = w.started; run = λ i e. cond b ((j : ℕ) × (f : Env) × w.run j f × Onward w.program j f i e) (w.run i e) })
-  step_by true when leads = record {
-    program = r.program;
-    allowed = r.allowed;
-    certificate = r.certificate;
-    started = let g = when.0 refl in ap (λ (t : RunnerRun). is_some t.at) ((leads g.0 g.1 g.2).3) ∙ sym (ap (λ (t : RunnerRun). is_some t.at) g.2) ∙ r.started;
-    goes = λ i e q.
-        let g = when.0 refl in
-        let l = leads g.0 g.1 g.2 in
-        let p = places (sym l.3 ∙ q) in
-        let on : Onward m.program g.0 g.1 i e = subst₂ (Onward m.program g.0 g.1) p.0 p.1 l.4 in
-        (g.0, g.1, r.goes g.0 g.1 g.2, subst (λ (xs : List Line). Onward xs g.0 g.1 i e) r.program on);
-    stands = λ i e h.
-        let l = leads h.0 h.1 (r.stands h.0 h.1 h.2) in
-        let on : Onward m.program h.0 h.1 i e = subst (λ (xs : List Line). Onward xs h.0 h.1 i e) (sym r.program) h.3 in
-        let p = one_place l.0 l.4 on in
-        l.3 ∙ ap₂ run_at p.0 p.1;
-  }
-  step_by false when leads = record {
-    program = r.program;
-    allowed = r.allowed;
-    certificate = r.certificate;
-    started = ap (λ (t : RunnerRun). is_some t.at) (stays_put m.run.at refl (λ g. true≢false (sym (when.1 g)))) ∙ r.started;
-    goes = λ i e q. r.goes i e (stays i e m.run.at refl (λ g. true≢false (sym (when.1 g))) q);
-    stands = λ i e h. absurd (true≢false (sym (when.1 (i, e, r.stands i e h))));
-  }
+  -- where the run is, if the step is accepted, and if not
+  abbrev Is : Answer → Bool → ℕ → Env → Type 0
+  Is a b i e = cond b ((j : ℕ) × (f : Env) × RunIs home m.program past j f × NextPlace m.program j f a i e) (RunIs home m.program past i e)
+
+  pub step_by : (a : Answer) → (accepted a ≡ true) ↔ Goes → Leads m step a → Remembers home (event step a ∷ past) (after_step m)
+  step_by a when leads = by (accepted a) refl
+    where
+      by : (b : Bool) → accepted a ≡ b → Remembers home (event step a ∷ past) (after_step m)
+      by true t =
+          let g = when.0 t in
+          let l = leads g.0 g.1 g.2 in record {
+            program = record { is = r.program.is; only = r.program.only };
+            allowed = r.allowed;
+            certificate = r.certificate;
+            started = ap (λ (u : Run). is_some u.at) l.3 ∙ sym (ap (λ (u : Run). is_some u.at) g.2) ∙ r.started;
+            goes = λ i e q.
+                let p = places (sym l.3 ∙ q) in
+                subst (λ (b : Bool). Is a b i e) (sym t) (g.0, g.1, r.goes g.0 g.1 g.2, subst₂ (NextPlace m.program g.0 g.1 a) p.0 p.1 l.4);
+            stands = λ i e h.
+                let k = subst (λ (b : Bool). Is a b i e) t h in
+                let here = leads k.0 k.1 (r.stands k.0 k.1 k.2) in
+                let p = one_place here.0 here.4 k.3 in
+                here.3 ∙ ap₂ run_at p.0 p.1;
+          }
+      by false t =
+          let none : Goes → ⊥ = λ g. true≢false (sym (when.1 g) ∙ t) in record {
+            program = record { is = r.program.is; only = r.program.only };
+            allowed = r.allowed;
+            certificate = r.certificate;
+            started = ap (λ (u : Run). is_some u.at) (stays_put m.run.at refl none) ∙ r.started;
+            goes = λ i e q. subst (λ (b : Bool). Is a b i e) (sym t) (r.goes i e (stays i e m.run.at refl none q));
+            stands = λ i e h. absurd (none (i, e, r.stands i e (subst (λ (b : Bool). Is a b i e) t h)));
+          }
+
+  pub dry_by : (vs : List ℤ) (n : ℕ) (a : Answer) → Remembers home (event (dry vs n) a ∷ past) m
+  dry_by vs n a = record { program = record { is = r.program.is; only = r.program.only }; allowed = r.allowed; certificate = r.certificate; started = r.started; goes = r.goes; stands = r.stands }

@@ -1,35 +1,59 @@
--- The law of lists of calls on a session just made. What a call is answered is said from the calls and the answers before it alone.
-use Rattle.std.specs.Prelude.{◌≡◌, ℕ, ◌-◌, ◌≤◌, ◌<◌, Bool, true, false, cond, ◌↔◌, List, [], ◌∷◌, ◌++◌, length, map, ℤ, pos, Some, None, Option, ◌==◌, slice_index_or, slice_set}
+-- The law of the controller: what each call of a list is answered, if the list is played on a session just made. It speaks of calls and
+-- answers alone, and is read from top to bottom: what a call is; what stands after the calls before it; what it is answered there.
+--
+--   call, answer, event   one of the seven calls; what it is answered; a call with the answer that it had
+--   past                  the events before a call, the newest first
+--   now                   what stands after the past: program, allowed ranges, certificate, and the run
+--   travel                the envelope of the session's travel: its region, its sides, and home
+--   lines, i, j           the lines of a program; places in it, from 0
+--   e, f                  environments: what each register holds
+--   vs                    values of the parameters, as a start or a dry run gives them
+--   states                how many states of its domain are lent to a certify
+--
+-- It cites what is settled elsewhere: reading a text (grammar), blocks (program), sweeps (certify), plain runs (model), ranges (session).
+use Rattle.std.specs.Prelude.{◌≡◌, ℕ, ◌-◌, ◌≤◌, ◌<◌, Bool, true, false, cond, ◌↔◌, List, [], ◌∷◌, ◌++◌, length, map, nat_le, ℤ, pos}
+use Rattle.std.specs.Prelude.{Some, None, Ok, Err, Option, Result, is_some, slice_index_or, slice_set}
 use Rattle.std.specs.List.{AllByRecursion}
-use Rattle.grammar.specs.Answer.{Answer as Reading, read, refused as unread, answer as reading_of}
+use Rattle.grammar.specs.Law.{TheAnswer}
+use Rattle.grammar.specs.declared.refusal.Refusal.{Refusal as NoLine}
 use Rattle.model.specs.Axes.{Position}
-use Rattle.model.specs.Blocks.{closed, labels}
-use Rattle.model.specs.Environments.{Env, Lies, full, parameters, position}
+use Rattle.model.specs.Blocks.{closed}
+use Rattle.model.specs.Envelopes.{Envelope}
+use Rattle.model.specs.Environments.{Env, Lies, full, parameters, position, registers}
+use Rattle.model.specs.Refusals.{Told, failure_in}
 use Rattle.model.specs.Runs.{Steps, goes, commands, faults}
 use Rattle.model.specs.Whole.{TheEnding}
 use Rattle.model.specs.declared.ending.Ending.{Ending}
 use Rattle.model.specs.declared.ending.Failure.{Failure}
 use Rattle.model.specs.declared.line.Line.{Line}
 use Rattle.model.specs.declared.range.Range.{Range}
-use Rattle.model.specs.declared.side.Side.{Side}
-use Rattle.domain.specs.Lattice.{Lattice, single}
-use Rattle.program.specs.Entry.{line_answer}
+use Rattle.domain.specs.Lattice.{Lattice, Meaning, single}
+use Rattle.domain.specs.Tracking.{LosesNothing}
+use Rattle.program.specs.Entry.{by_text}
+use Rattle.program.specs.Limits.{max_lines}
+use Rattle.program.specs.Numbers.{line_refusal}
+use Rattle.program.specs.declared.refusal.LineRefusal.{LineRefusal}
+use Rattle.program.specs.declared.refusal.LineRefusal.TheVariants.{Table}
+use Rattle.program.specs.declared.refusal.TableRefusal.TheVariants.{Lines}
 use Rattle.runner.specs.Drying.{start as start_of}
+use Rattle.sweep.specs.Blocks.{states_for}
 use Rattle.sweep.specs.Exact.{NoWhile}
-use Rattle.certify.specs.Certifies.{Answer, TheVerdict, Promised}
+use Rattle.certify.specs.Certifies.{Answer as Verdict, TheVerdict, Promised}
+use Rattle.certify.specs.Refusals.{certify_refusal}
+use Rattle.certify.specs.declared.refusal.CertifyRefusal.TheVariants.{Uncertified}
 use Rattle.session.specs.Answers.{no_ranges, allow_answer, start_answer, dry_answer}
 use Rattle.session.specs.Promises.{Hulls, InCertificate}
-use Rattle.calls.specs.Said.{Said, done, certificate, came, commanded, went_on, ended, refused, nothing, failure, by_line, by_number, by_verdict, by_start}
+use Rattle.session.specs.Refusals.{allow_refusal, start_refusal, step_refusal, dry_refusal}
+use Rattle.session.specs.declared.refusal.DryRefusal.{DryRefusal}
+use Rattle.session.specs.declared.refusal.StepRefusal.TheVariants.{NoRun}
 
 -- ---- calls and answers
--- the domain at hand, by its lattice: certify takes those alone whose laws hold. It is exact if it loses nothing on single values, as
--- intervals and congruences do, and each product with such a first side.
+-- the domain that a certify brings with its states: what these mean, and the lattice on that. Certify takes domains alone whose laws hold.
 pub record AnyDomain : Type 1 where
   pub State : Type 0
-  pub lattice : Lattice State
-  pub exact : Bool
+  pub means : Meaning State
+  pub lattice : Lattice means
 
--- a call with its arguments; certify has a domain, and so many states are lent to it
 pub data Call : Type 1 where
   line : (text : List ℕ) → Call
   allow : (parameter : ℕ) (range : Range) → Call
@@ -39,99 +63,106 @@ pub data Call : Type 1 where
   step : Call
   dry : (values : List ℤ) (steps : ℕ) → Call
 
+-- a call is done, or says what it found; or it is refused, by a number and what goes with it
+pub data Answer : Type 0 where
+  done : Answer
+  certified : Hulls → Answer
+  went_on : Answer
+  commanded : Position → Answer
+  ended : Answer
+  comes_to : Ending → Answer
+  refused : Told → Answer
+
+pub data Event : Type 1 where
+  event : (call : Call) (answer : Answer) → Event
+
 -- every answer but a refusal accepts the call
-abbrev pub accepted : Said → Bool
-accepted (refused k d) = false
+abbrev pub accepted : Answer → Bool
+accepted (refused why) = false
 accepted a = true
 
--- certify judges when it answers a certificate, or 33
-abbrev pub judges : Said → Bool
-judges (refused k d) = k == 33
+-- certify has judged the program where it answers a certificate, or a failure of the program
+abbrev pub judges : Answer → Bool
+judges (refused why) = is_some (failure_in why.detail)
 judges a = true
 
--- a call with the answer that it had
-pub record Event : Type 1 where
-  pub call : Call
-  pub said : Said
+-- a result of the code, as an answer
+abbrev pub done_or : {E : Type 0} → (E → Told) → Result (Unit {0}) E → Answer
+done_or tells (Ok u) = done
+done_or tells (Err why) = refused (tells why)
 
--- ---- the past: the calls before, the newest first
--- the line that a text is read as
-abbrev pub line_of : Reading → List Line
-line_of (read x) = x ∷ []
-line_of (unread k p) = []
+abbrev pub by_verdict : Verdict → Answer
+by_verdict (Ok c) = certified c.hulls
+by_verdict (Err why) = refused (certify_refusal why)
 
--- the program holds each accepted line that no accepted wipe follows, in order
-abbrev pub program_by : Call → Said → List Line → List Line
-program_by (line s) a xs = cond (accepted a) (xs ++ line_of (reading_of s)) xs
-program_by wipe a xs = []
-program_by c a xs = xs
+-- ---- what stands after the past
+-- one line more than before, as which the text is read
+pub record OneMore (text : List ℕ) (Before : List Line → Type 0) (lines : List Line) : Type 0 where
+  pub before : List Line
+  pub held : Before before
+  pub added : Line
+  pub read : TheAnswer text (Ok added)
+  pub is : lines ≡ before ++ (added ∷ [])
 
-abbrev pub program_of : List Event → List Line
-program_of [] = []
-program_of (e ∷ past) = program_by e.call e.said (program_of past)
+-- the program holds the line of each accepted text that no wipe follows, in order
+abbrev pub ProgramIs : List Event → List Line → Type 0
+ProgramIs [] lines = lines ≡ []
+ProgramIs (event (line text) a ∷ past) lines = cond (accepted a) (OneMore text (ProgramIs past) lines) (ProgramIs past lines)
+ProgramIs (event wipe a ∷ past) lines = lines ≡ []
+ProgramIs (event call a ∷ past) lines = ProgramIs past lines
 
--- what a parameter may be: its newest accepted range that no wipe follows, or 0 alone
-abbrev pub allowed_by : Call → Said → List Range → List Range
-allowed_by (allow n r) a rs = cond (accepted a) (slice_set rs (n - 1) r) rs
-allowed_by wipe a rs = no_ranges
-allowed_by c a rs = rs
+-- these lines are the program, and no others are
+pub record TheProgram (past : List Event) (lines : List Line) : Type 0 where
+  pub is : ProgramIs past lines
+  pub only : (others : List Line) → ProgramIs past others → others ≡ lines
 
-abbrev pub allowed_of : List Event → List Range
-allowed_of [] = no_ranges
-allowed_of (e ∷ past) = allowed_by e.call e.said (allowed_of past)
+-- a parameter may be what its newest accepted range says that no wipe follows, or 0 alone
+abbrev pub allowed_after : List Event → List Range
+allowed_after [] = no_ranges
+allowed_after (event (allow n range) a ∷ past) = cond (accepted a) (slice_set (allowed_after past) (n - 1) range) (allowed_after past)
+allowed_after (event wipe a ∷ past) = no_ranges
+allowed_after (event call a ∷ past) = allowed_after past
 
--- the hulls of the certificate that an answer is
-abbrev pub hulls_in : Said → Option Hulls
-hulls_in (certificate hs) = Some hs
+-- a call ends the certificate that stands, and the run under it: an accepted line or range, a wipe, or a certify that has judged
+abbrev pub ends : Call → Answer → Bool
+ends (line text) a = accepted a
+ends (allow n range) a = accepted a
+ends wipe a = true
+ends (certify domain states) a = judges a
+ends call a = false
+
+-- the hulls of the certificate that an answer gives
+abbrev pub hulls_in : Answer → Option Hulls
+hulls_in (certified hulls) = Some hulls
 hulls_in a = None
 
--- the newest certificate stands, unless a call after it has ended it: an accepted line, range or wipe, or a certify that judged
-abbrev pub certificate_by : Call → Said → Option Hulls → Option Hulls
-certificate_by (line s) a c = cond (accepted a) None c
-certificate_by (allow n r) a c = cond (accepted a) None c
-certificate_by wipe a c = None
-certificate_by (certify d n) a c = cond (judges a) (hulls_in a) c
-certificate_by call a c = c
+-- the newest certificate stands, unless a later call has ended it
+abbrev pub certificate_after : List Event → Option Hulls
+certificate_after [] = None
+certificate_after (event call a ∷ past) = cond (ends call a) (hulls_in a) (certificate_after past)
 
-abbrev pub certificate_of : List Event → Option Hulls
-certificate_of [] = None
-certificate_of (e ∷ past) = certificate_by e.call e.said (certificate_of past)
+-- whether a start was accepted under that certificate
+abbrev pub started_after : List Event → Bool
+started_after [] = false
+started_after (event (start vs) a ∷ past) = cond (accepted a) true (started_after past)
+started_after (event call a ∷ past) = cond (ends call a) false (started_after past)
 
--- one step of the plain run leads from line i with e to line j with f; none does once it has ended
-pub data Onward (lines : List Line) (i : ℕ) (e : Env) : ℕ → Env → Type 0 where
-  by_going : {j : ℕ} {f : Env} → Steps lines i e (goes j f) → Onward lines i e j f
-  by_command : {j : ℕ} {f : Env} → Steps lines i e (commands j f) → Onward lines i e j f
-  at_end : length lines ≤ i → Onward lines i e i e
+-- one step of the plain run from line i with e: its answer, and the next place, line j with f; a run that has ended stays where it is
+pub data NextPlace (lines : List Line) (i : ℕ) (e : Env) : Answer → ℕ → Env → Type 0 where
+  by_going : {j : ℕ} {f : Env} → Steps lines i e (goes j f) → NextPlace lines i e went_on j f
+  by_command : {j : ℕ} {f : Env} → Steps lines i e (commands j f) → NextPlace lines i e (commanded (position f)) j f
+  at_end : length lines ≤ i → NextPlace lines i e ended i e
 
--- whether a run has begun under the certificate that stands
-abbrev pub started_by : Call → Said → Bool → Bool
-started_by (line s) a b = cond (accepted a) false b
-started_by (allow n r) a b = cond (accepted a) false b
-started_by wipe a b = false
-started_by (certify d n) a b = cond (judges a) false b
-started_by (start vs) a b = cond (accepted a) true b
-started_by call a b = b
+-- the newest run under that certificate is at line i with e: it began at home with the values of its start, and each accepted step led it
+-- to the next place. It is a run of the lines that stand, since an accepted line ends it.
+abbrev pub RunIs : Position → List Line → List Event → ℕ → Env → Type 0
+RunIs home lines [] i e = ⊥
+RunIs home lines (event (start vs) a ∷ past) i e = cond (accepted a) ((i ≡ 0) × (e ≡ start_of home vs)) (RunIs home lines past i e)
+RunIs home lines (event step a ∷ past) i e =
+    cond (accepted a) ((j : ℕ) × (f : Env) × RunIs home lines past j f × NextPlace lines j f a i e) (RunIs home lines past i e)
+RunIs home lines (event call a ∷ past) i e = cond (ends call a) ⊥ (RunIs home lines past i e)
 
-abbrev pub started_of : List Event → Bool
-started_of [] = false
-started_of (e ∷ past) = started_by e.call e.said (started_of past)
-
--- the newest run under that certificate is at line i, from 0, with e: it began at home with the values of its start, and went one step
--- of the plain run for each step that was accepted
-abbrev pub RunBy : Position → Call → Said → List Line → (ℕ → Env → Type 0) → ℕ → Env → Type 0
-RunBy home (line s) a xs Was i e = cond (accepted a) ⊥ (Was i e)
-RunBy home (allow n r) a xs Was i e = cond (accepted a) ⊥ (Was i e)
-RunBy home wipe a xs Was i e = ⊥
-RunBy home (certify d n) a xs Was i e = cond (judges a) ⊥ (Was i e)
-RunBy home (start vs) a xs Was i e = cond (accepted a) ((i ≡ 0) × (e ≡ start_of home vs)) (Was i e)
-RunBy home step a xs Was i e = cond (accepted a) ((j : ℕ) × (f : Env) × Was j f × Onward xs j f i e) (Was i e)
-RunBy home (dry vs k) a xs Was i e = Was i e
-
-abbrev pub Run : Position → List Event → ℕ → Env → Type 0
-Run home [] i e = ⊥
-Run home (v ∷ past) i e = RunBy home v.call v.said (program_of past) (Run home past) i e
-
--- what stands: the program, the allowed ranges, the certificate, whether a start was accepted under it, and where that run is
+-- all that stands
 pub record Standing : Type 1 where
   pub program : List Line
   pub allowed : List Range
@@ -139,71 +170,93 @@ pub record Standing : Type 1 where
   pub started : Bool
   pub run : ℕ → Env → Type 0
 
-abbrev pub standing : Position → List Event → Standing
-standing home past = record { program = program_of past; allowed = allowed_of past; certificate = certificate_of past; started = started_of past; run = Run home past }
+abbrev pub standing : Position → List Event → List Line → Standing
+standing home past lines = record {
+  program = lines;
+  allowed = allowed_after past;
+  certificate = certificate_after past;
+  started = started_after past;
+  run = RunIs home lines past;
+}
+
+-- there is one program after the past, and with it what stands is so
+abbrev pub After : Envelope → List Event → (Standing → Type 0) → Type 0
+After travel past IsSo = (lines : List Line) × TheProgram past lines × IsSo (standing travel.home past lines)
 
 -- ---- what is answered
--- certify answers by the one verdict of the repeated sweeps in its domain; under a certificate no step of any run from home and allowed
--- values faults, and what it commands lies in the travel and in the certificate
-abbrev pub Certifies : List Side → Position → Standing → AnyDomain → ℕ → Said → Type 0
-Certifies sides home w d n a = (r : Answer) × TheVerdict d.lattice w.program sides home w.allowed n r × Promised w.program sides home w.allowed r × (a ≡ by_verdict r)
+-- line: a full program takes no text. Else the text is refused as it is read, or the line that it is read as goes by the rules of blocks.
+abbrev pub take_text : List Line → Result Line NoLine → Result (Unit {0}) LineRefusal
+take_text lines reading = cond (nat_le max_lines (length lines)) (Err (Table Lines)) (by_text lines reading)
 
--- dry is refused by its number, or answers the one ending of the run from home with the values
-abbrev pub DryBy : List Side → Position → List Line → List ℤ → ℕ → Option ℕ → Said → Type 0
-DryBy sides home xs vs k (Some n) a = a ≡ refused n nothing
-DryBy sides home xs vs k None a = (o : Ending) × TheEnding xs sides k 0 (start_of home vs) o × (a ≡ came o)
+pub record AnswersLine (lines : List Line) (text : List ℕ) (a : Answer) : Type 0 where
+  pub reading : Result Line NoLine
+  pub the_reading : TheAnswer text reading
+  pub is : a ≡ done_or line_refusal (take_text lines reading)
 
-abbrev pub Dries : List Side → Position → Standing → List ℤ → ℕ → Said → Type 0
-Dries sides home w vs k a = DryBy sides home w.program vs k (dry_answer w.program vs k) a
+-- dry: refused by its rule, or else what the plain run from home with these values comes to within so many steps
+pub data AnswersDry (travel : Envelope) (lines : List Line) (vs : List ℤ) (steps : ℕ) : Answer → Type 0 where
+  not_run : {why : DryRefusal} → dry_answer lines vs steps ≡ Err why → AnswersDry travel lines vs steps (refused (dry_refusal why))
+  is_run : {end : Ending} → dry_answer lines vs steps ≡ Ok tt → TheEnding lines travel steps 0 (start_of travel.home vs) end →
+      AnswersDry travel lines vs steps (comes_to end)
 
 -- a verdict agrees with a dry run: both end well, or both name one line with one cause
-pub record SameAs (a b : Said) : Type 0 where
-  pub both : (accepted a ≡ true) ↔ (b ≡ came Ending.Ended)
-  pub neither : (f : Failure) → (a ≡ refused 33 (failure f)) ↔ (b ≡ came (Ending.Stopped f))
+pub record Agree (verdict dried : Answer) : Type 0 where
+  pub well : (accepted verdict ≡ true) ↔ (dried ≡ comes_to Ending.Ended)
+  pub fails : (cause : Failure) → (verdict ≡ refused (certify_refusal (Uncertified cause))) ↔ (dried ≡ comes_to (Ending.Stopped cause))
 
--- exactness: where a closed program without loops has one value allowed for each parameter, and a state for each block, a dry run called
--- instead, with these values and a step for each line, has an answer, with which the verdict agrees
-abbrev pub Exactly : List Side → Position → Standing → ℕ → Said → Type 0
-Exactly sides home w n a = (vs : List ℤ) → closed w.program ≡ true → AllByRecursion NoWhile w.program → w.allowed ≡ map single vs → length (labels w.program) ≤ n →
-    (b : Said) × Dries sides home w vs (length w.program) b × SameAs a b
+-- one run alone is possible: a closed program without WHILE, one value for each parameter, and a state for each block
+pub record OneRun (now : Standing) (vs : List ℤ) (states : ℕ) : Type 0 where
+  pub closes : closed now.program ≡ true
+  pub straight : AllByRecursion NoWhile now.program
+  pub values : now.allowed ≡ map single vs
+  pub enough : states_for now.program ≤ states
 
--- each of the values lies in its parameter's range
+-- there a verdict agrees with what a dry run with these values and a step for each line is answered
+abbrev pub AgreesWithDry : Envelope → Standing → ℕ → Answer → Type 0
+AgreesWithDry travel now states a =
+    (vs : List ℤ) → OneRun now vs states → (dried : Answer) × AnswersDry travel now.program vs (length now.program) dried × Agree a dried
+
+-- certify: the one verdict of the repeated sweeps in its domain. Under a certificate no step of any run from home and allowed values
+-- faults, and what it commands lies in the travel and in the certificate. The verdict is exact where the domain loses nothing on single
+-- values. That is a fact of its operations, proved of states of one set for each register (pointwise::laws), as intervals are, and of each
+-- product with such a first side (domain::laws).
+pub record AnswersCertify (travel : Envelope) (now : Standing) (domain : AnyDomain) (states : ℕ) (a : Answer) : Type 0 where
+  pub verdict : Verdict
+  pub the_verdict : TheVerdict domain.lattice now.program travel now.allowed states verdict
+  pub promised : Promised now.program travel now.allowed verdict
+  pub is : a ≡ by_verdict verdict
+  pub exact : LosesNothing registers domain.lattice → AgreesWithDry travel now states a
+
+-- start: accepted where a certificate stands and each value lies in its parameter's range, and nowhere else
 abbrev pub AllLie : List ℤ → List Range → Type 0
-AllLie vs rs = (k : ℕ) → k < parameters → Lies (slice_index_or vs k (pos 0)) (slice_index_or rs k full)
+AllLie vs ranges = (k : ℕ) → k < parameters → Lies (slice_index_or vs k (pos 0)) (slice_index_or ranges k full)
 
--- a start is accepted where a certificate stands and each value lies in its range, and nowhere else
-pub record Starts (w : Standing) (vs : List ℤ) (a : Said) : Type 0 where
-  pub by_rule : a ≡ by_start (start_answer w.certificate w.allowed vs)
-  pub when : (accepted a ≡ true) ↔ ((hs : Hulls) × (w.certificate ≡ Some hs) × AllLie vs w.allowed)
+pub record AnswersStart (now : Standing) (vs : List ℤ) (a : Answer) : Type 0 where
+  pub by_rule : a ≡ done_or start_refusal (start_answer now.certificate now.allowed vs)
+  pub when : (accepted a ≡ true) ↔ ((hulls : Hulls) × (now.certificate ≡ Some hulls) × AllLie vs now.allowed)
 
--- a step's answer, as its plain run stands at line i with e
-pub data StepAnswers (lines : List Line) (i : ℕ) (e : Env) : Said → Type 0 where
-  going : {j : ℕ} {f : Env} → Steps lines i e (goes j f) → StepAnswers lines i e went_on
-  commanding : {j : ℕ} {f : Env} → Steps lines i e (commands j f) → StepAnswers lines i e (commanded (position f))
-  past_end : length lines ≤ i → StepAnswers lines i e ended
+-- step: accepted where a start was, under the certificate that stands; that is where a run is somewhere. It is answered as the plain run
+-- goes on from there; no value faults, and a position that is commanded lies in the travel and in the certificate.
+pub record AnswersStep (travel : Envelope) (now : Standing) (a : Answer) : Type 0 where
+  pub when : (accepted a ≡ true) ↔ (now.started ≡ true)
+  pub somewhere : (accepted a ≡ true) ↔ ((i : ℕ) × (e : Env) × now.run i e)
+  pub else : accepted a ≡ false → a ≡ refused (step_refusal NoRun)
+  pub goes_on : (i : ℕ) (e : Env) → now.run i e → (j : ℕ) × (f : Env) × NextPlace now.program i e a j f
+  pub no_fault : (i : ℕ) (e : Env) → now.run i e → Steps now.program i e faults → ⊥
+  pub inside : (i j : ℕ) (e f : Env) → now.run i e → Steps now.program i e (commands j f) →
+      travel.region (position f) × InCertificate (position f) now.certificate
 
--- a step is accepted where a run has begun under the certificate that stands, which is where there is one, and else refused with 43.
--- It answers what the plain run does there; no value faults, and what is commanded lies in the travel and in the certificate.
-pub record StepsBy (region : Position → Type 0) (w : Standing) (a : Said) : Type 0 where
-  pub when : (accepted a ≡ true) ↔ (w.started ≡ true)
-  pub there : (accepted a ≡ true) ↔ ((i : ℕ) × (e : Env) × w.run i e)
-  pub else : accepted a ≡ false → a ≡ refused 43 nothing
-  pub answers : (i : ℕ) (e : Env) → w.run i e → StepAnswers w.program i e a
-  pub no_fault : (i : ℕ) (e : Env) → w.run i e → Steps w.program i e faults → ⊥
-  pub inside : (i : ℕ) (e : Env) → w.run i e → (j : ℕ) (f : Env) → Steps w.program i e (commands j f) → region (position f) × InCertificate (position f) w.certificate
+abbrev pub Answers : Envelope → Standing → Call → Answer → Type 0
+Answers travel now (line text) a = AnswersLine now.program text a
+Answers travel now (allow n range) a = a ≡ done_or allow_refusal (allow_answer n range)
+Answers travel now wipe a = a ≡ done
+Answers travel now (certify domain states) a = AnswersCertify travel now domain states a
+Answers travel now (start vs) a = AnswersStart now vs a
+Answers travel now step a = AnswersStep travel now a
+Answers travel now (dry vs steps) a = AnswersDry travel now.program vs steps a
 
 -- ---- the law
--- a call keeps it, where this stands
-abbrev pub KeepsBy : (Position → Type 0) → List Side → Position → Standing → Call → Said → Type 0
-KeepsBy region sides home w (line s) a = a ≡ by_line (line_answer w.program s)
-KeepsBy region sides home w (allow n r) a = a ≡ by_number (allow_answer n r)
-KeepsBy region sides home w wipe a = a ≡ done
-KeepsBy region sides home w (certify d n) a = Certifies sides home w d n a × (d.exact ≡ true → Exactly sides home w n a)
-KeepsBy region sides home w (start vs) a = Starts w vs a
-KeepsBy region sides home w step a = StepsBy region w a
-KeepsBy region sides home w (dry vs k) a = Dries sides home w vs k a
-
--- every call of a list, refused or not, keeps it after those before it
-abbrev pub Lawfully : (Position → Type 0) → List Side → Position → List Event → List Event → Type 0
-Lawfully region sides home past [] = Unit {0}
-Lawfully region sides home past (v ∷ vs) = KeepsBy region sides home (standing home past) v.call v.said × Lawfully region sides home (v ∷ past) vs
+-- each call of a list, refused or not, is answered so after the past and the calls before it
+abbrev pub Lawful : Envelope → List Event → List Event → Type 0
+Lawful travel past [] = Unit {0}
+Lawful travel past (event call a ∷ more) = After travel past (λ now. Answers travel now call a) × Lawful travel (event call a ∷ past) more

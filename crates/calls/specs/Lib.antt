@@ -1,5 +1,4 @@
-pub mod Said
 pub mod Law
 pub mod Playing
 pub mod Loans
-pub mod Answers
+pub mod Events

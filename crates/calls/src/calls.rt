@@ -7,8 +7,8 @@ ghost use Rattle.calls.specs.Playing.{AllKept, afters};
 use session::session::Session;
 use travel::travel::Travel;
 
-// Played on a session, a list makes its calls in order. It may note answers in itself: `events`, the calls with their answers, takes the
-// list as it was, as it is after, and what it gives.
+/// Played on a session, a list makes its calls in order. It may note answers in itself: `events`, the calls with their answers, takes the
+/// list as it was, as it is after, and what it gives.
 pub trait Calls {
     type Answers;
 
@@ -18,8 +18,9 @@ pub trait Calls {
     ghost stays: { Self → Self → Self.Answers → Type 0 };
 
     fn play<T: Travel>(&mut self, session: &mut Session<T>) -> Self::Answers
-        ensures kept { AllKept (T.region session.old.travel) (T.sides session.old.travel) (T.origin session.old.travel) (memory session.old) (events self.old self.new result) }
-        ensures left { memory session.new ≡ afters (T.origin session.old.travel) (memory session.old) (events self.old self.new result) }
+        ensures kept { AllKept (T.envelope session.old.travel) (memory session.old) (events self.old self.new result) }
+        ensures left { memory session.new ≡
+            afters (T.envelope session.old.travel).home (memory session.old) (events self.old self.new result) }
         ensures stays { stays self.old self.new result }
         ensures travel { session.new.travel ≡ session.old.travel };
 }

@@ -5,6 +5,7 @@ use crate::calls::Calls;
 use session::session::Session;
 use travel::travel::Travel;
 
+/// No call.
 #[derive(Clone, Copy)]
 pub struct Nothing;
 
@@ -18,6 +19,7 @@ impl Calls for Nothing {
     fn play<T: Travel>(&mut self, session: &mut Session<T>) -> () {}
 }
 
+/// One list, and another after it.
 #[derive(Drop)]
 pub struct Then<A, B> {
     pub first: A,

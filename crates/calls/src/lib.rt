@@ -4,6 +4,6 @@
 
 pub mod calls;
 pub mod combine;
-pub mod replay;
+pub mod play;
 pub mod single;
 pub mod tape;

@@ -1,12 +1,10 @@
 // A list of one call, for each call.
 ghost use Rattle.std.specs.Prelude.{◌≡◌, [], ◌∷◌, length};
-ghost use Rattle.certify.specs.Certifies.{Untouched};
-ghost use Rattle.program.specs.Entry.{line_said};
-ghost use Rattle.session.specs.Answers.{allow_said, start_said};
-ghost use Rattle.calls.specs.Answers.{event, domain, by_dried, by_stepped};
-ghost use Rattle.calls.specs.Loans.{SameLoan};
-ghost use Rattle.calls.specs.Law.{line, allow, wipe, certify, start, step, dry};
-ghost use Rattle.calls.specs.Said.{done, by_line, by_number, by_verdict, by_start};
+ghost use Rattle.program.specs.Numbers.{line_refusal};
+ghost use Rattle.session.specs.Refusals.{allow_refusal, start_refusal};
+ghost use Rattle.calls.specs.Events.{domain, by_dry, by_step};
+ghost use Rattle.calls.specs.Loans.{StatesStay};
+ghost use Rattle.calls.specs.Law.{by_verdict, done, done_or, event, line, allow, wipe, certify, start, step, dry};
 
 use crate::calls::Calls;
 use certify::refusal::{Certificate, CertifyRefusal};
@@ -20,6 +18,7 @@ use session::refusal::{AllowRefusal, DryRefusal, StartRefusal, StepRefusal};
 use session::session::Session;
 use travel::travel::Travel;
 
+/// The call `line`: the text is to be the next line of the program.
 #[derive(Clone, Copy)]
 pub struct Line<'a> {
     pub text: &'a [u8],
@@ -28,7 +27,7 @@ pub struct Line<'a> {
 impl<'a> Calls for Line<'a> {
     type Answers = Result<(), LineRefusal>;
 
-    ghost events = { λ c _ r. event (line c.text.now) (by_line (line_said r)) ∷ [] };
+    ghost events = { λ c _ r. event (line c.text.now) (done_or line_refusal r) ∷ [] };
 
     ghost stays = { λ c d _. d ≡ c };
 
@@ -37,6 +36,7 @@ impl<'a> Calls for Line<'a> {
     }
 }
 
+/// The call `allow`: a parameter, from 1 to 6, may have the values of a range.
 #[derive(Clone, Copy)]
 pub struct Allow {
     pub parameter: u32,
@@ -46,7 +46,7 @@ pub struct Allow {
 impl Calls for Allow {
     type Answers = Result<(), AllowRefusal>;
 
-    ghost events = { λ c _ r. event (allow c.parameter c.range) (by_number (allow_said r)) ∷ [] };
+    ghost events = { λ c _ r. event (allow c.parameter c.range) (done_or allow_refusal r) ∷ [] };
 
     ghost stays = { λ c d _. d ≡ c };
 
@@ -55,6 +55,7 @@ impl Calls for Allow {
     }
 }
 
+/// The call `wipe`: lines, ranges, certificate and run are forgotten.
 #[derive(Clone, Copy)]
 pub struct Wipe;
 
@@ -70,7 +71,7 @@ impl Calls for Wipe {
     }
 }
 
-// With lent states, in the domain of these.
+/// The call `certify`, in the domain of the lent states, one for each block.
 #[derive(Drop)]
 pub struct Certify<'a, D> {
     pub store: &'a mut [D],
@@ -79,15 +80,16 @@ pub struct Certify<'a, D> {
 impl<'a, D: Domain> Calls for Certify<'a, D> {
     type Answers = Result<Certificate, CertifyRefusal>;
 
-    ghost events = { λ c _ r. event (certify (domain D.Domain.lattice D.Domain.exact) (length c.store.now)) (by_verdict r) ∷ [] };
+    ghost events = { λ c _ r. event (certify (domain D.Domain.lattice) (length c.store.now)) (by_verdict r) ∷ [] };
 
-    ghost stays = { λ c d r. SameLoan c.store d.store × Untouched r c.store.now d.store.now };
+    ghost stays = { λ c d r. StatesStay c.store d.store r };
 
     fn play<T: Travel>(&mut self, session: &mut Session<T>) -> Result<Certificate, CertifyRefusal> {
         session.certify(self.store)
     }
 }
 
+/// The call `start`: a run from home with these values of #1 to #6.
 #[derive(Clone, Copy)]
 pub struct Start {
     pub values: [i32; PARAMETERS],
@@ -96,7 +98,7 @@ pub struct Start {
 impl Calls for Start {
     type Answers = Result<(), StartRefusal>;
 
-    ghost events = { λ c _ r. event (start c.values) (by_start (start_said r)) ∷ [] };
+    ghost events = { λ c _ r. event (start c.values) (done_or start_refusal r) ∷ [] };
 
     ghost stays = { λ c d _. d ≡ c };
 
@@ -105,13 +107,14 @@ impl Calls for Start {
     }
 }
 
+/// The call `step`: one step of the run.
 #[derive(Clone, Copy)]
 pub struct Step;
 
 impl Calls for Step {
     type Answers = Result<Progress, StepRefusal>;
 
-    ghost events = { λ _ _ r. event step (by_stepped r) ∷ [] };
+    ghost events = { λ _ _ r. event step (by_step r) ∷ [] };
 
     ghost stays = { λ c d _. d ≡ c };
 
@@ -120,6 +123,7 @@ impl Calls for Step {
     }
 }
 
+/// The call `dry`: what at most so many steps from home, with these values of #1 to #6, would come to.
 #[derive(Clone, Copy)]
 pub struct Dry {
     pub values: [i32; PARAMETERS],
@@ -129,7 +133,7 @@ pub struct Dry {
 impl Calls for Dry {
     type Answers = Result<Ending, DryRefusal>;
 
-    ghost events = { λ c _ r. event (dry c.values c.steps) (by_dried r) ∷ [] };
+    ghost events = { λ c _ r. event (dry c.values c.steps) (by_dry r) ∷ [] };
 
     ghost stays = { λ c d _. d ≡ c };
 

@@ -1,12 +1,12 @@
 // Lists of one kind in lent memory, played one after another.
-ghost use Rattle.calls.specs.Answers.{recorded};
+ghost use Rattle.calls.specs.Events.{recorded};
 ghost use Rattle.calls.specs.Loans.{TapeStays};
 
 use crate::calls::Calls;
 use session::session::Session;
 use travel::travel::Travel;
 
-// The answers are noted beside the lists; lists for whose answers there is no room are not played.
+/// The answers are noted beside the lists; lists for whose answers there is no room are not played.
 #[derive(Drop)]
 pub struct Tape<'a, C: Calls> {
     pub calls: &'a mut [C],

@@ -1,20 +1,21 @@
 -- A start after a wipe is refused for want of a certificate.
-use Rattle.std.proofs.Common.{◌≡◌, ℕ, List, [], ◌∷◌, ◌++◌, ℤ, Ok, Err, Result, refl, arith}
-use Rattle.model.specs.Axes.{Position}
-use Rattle.model.specs.declared.side.Side.{Side}
-use Rattle.session.specs.Answers.{start_said}
+use Rattle.std.proofs.Common.{◌≡◌, ℕ, List, [], ◌∷◌, ◌++◌, ℤ, Ok, Err, Result, refl, ap, arith}
+use Rattle.model.specs.Envelopes.{Envelope}
+use Rattle.model.specs.Refusals.{Told}
+use Rattle.session.specs.Refusals.{start_refusal}
 use Rattle.session.specs.declared.refusal.StartRefusal.{StartRefusal}
 use Rattle.session.specs.declared.refusal.StartRefusal.TheVariants.{Uncertified, Outside}
-use Rattle.calls.specs.Law.{Event, Lawfully, wipe, start}
-use Rattle.calls.specs.Said.{done, refused, nothing, by_start}
-use Rattle.calls.specs.Answers.{event}
+use Rattle.calls.specs.Law.{done, done_or, refused, Event, event, wipe, Lawful}
 use Rattle.calls.proofs.Consequences.{later, lawful_rest, refused_after_wipe}
+use Rattle.clients.specs.Lists.{started}
 
-refused_41 : (r : Result (Unit {0}) StartRefusal) → by_start (start_said r) ≡ refused 41 nothing → r ≡ Err Uncertified
-refused_41 (Ok u) e = let z : ◌≡◌ {A = ℕ} 0 1 = cc in absurd (omega arith)
-refused_41 (Err Uncertified) e = refl
-refused_41 (Err (Outside n)) e = let z : ◌≡◌ {A = ℕ} 42 41 = cc in absurd (omega arith)
+uncertified : (r : Result (Unit {0}) StartRefusal) → done_or start_refusal r ≡ refused (start_refusal Uncertified) → r ≡ Err Uncertified
+uncertified (Ok u) e = absurd (cc)
+uncertified (Err Uncertified) e = refl
+uncertified (Err (Outside n)) e =
+    let told : start_refusal (Outside n) ≡ start_refusal Uncertified = cc in
+    let numbers : ◌≡◌ {A = ℕ} 42 41 = ap (λ (t : Told). t.number) told in
+    absurd (omega arith)
 
-pub start_refused : (region : Position → Type 0) (sides : List Side) (home : Position) (xs : List Event) (vs : List ℤ) (r : Result (Unit {0}) StartRefusal)
-    → Lawfully region sides home [] (xs ++ (event wipe done ∷ (event (start vs) (by_start (start_said r)) ∷ []))) → r ≡ Err Uncertified
-start_refused region sides home xs vs r law = refused_41 r (refused_after_wipe region sides home (later [] xs) vs _ (lawful_rest region sides home [] xs _ law))
+pub start_refused : (travel : Envelope) (xs : List Event) (vs : List ℤ) (r : Result (Unit {0}) StartRefusal) → Lawful travel [] (xs ++ (event wipe done ∷ (started vs r ∷ []))) → r ≡ Err Uncertified
+start_refused travel xs vs r law = uncertified r (refused_after_wipe travel (later [] xs) vs _ (lawful_rest travel [] xs _ law))

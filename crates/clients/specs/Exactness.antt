@@ -1,16 +1,7 @@
--- When a program has one run alone.
-use Rattle.std.specs.Prelude.{◌≡◌, ℕ, ◌≤◌, true, List, length, map, reverse, ℤ}
-use Rattle.std.specs.List.{AllByRecursion}
-use Rattle.model.specs.Blocks.{closed, labels}
-use Rattle.domain.specs.Lattice.{single}
-use Rattle.sweep.specs.Exact.{NoWhile}
-use Rattle.calls.specs.Law.{Event, program_of, allowed_of}
+-- Certify and dry, where one run alone is possible.
+use Rattle.std.specs.Prelude.{◌≡◌, ℕ, List, length, ℤ}
+use Rattle.calls.specs.Law.{Answer, Standing, OneRun, Agree}
 
--- after these calls: the program is closed and has no WHILE, each parameter may have its one value, there is a state for each block and a
--- step for each line
-pub record HasOneRun (es : List Event) (states : ℕ) (vs : List ℤ) (steps : ℕ) : Type 0 where
-  pub closes : closed (program_of (reverse es)) ≡ true
-  pub straight : AllByRecursion NoWhile (program_of (reverse es))
-  pub ranges : allowed_of (reverse es) ≡ map single vs
-  pub enough : length (labels (program_of (reverse es))) ≤ states
-  pub each_line : steps ≡ length (program_of (reverse es))
+-- a verdict with so many states agrees with a dry run of these values, if that is the one run and has a step for each line
+abbrev pub AgreesOnOneRun : Standing → ℕ → List ℤ → ℕ → Answer → Answer → Type 0
+AgreesOnOneRun now states vs steps verdict dried = OneRun now vs states → steps ≡ length now.program → Agree verdict dried

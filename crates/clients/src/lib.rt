@@ -5,4 +5,5 @@
 pub mod certified;
 pub mod exact;
 pub mod runs;
+pub mod sets;
 pub mod wiped;

@@ -4,9 +4,8 @@ use Rattle.clients.proofs.exact.certify_and_dry.Goals as goal
 
 pub returns : goal.returns
 returns g c =
-    let t = g.T.Travel in
-    let u = c.args.travel in
     let old = c.args.list.now in
-    let es = g.C.Calls.events old.first c.replay-before.new.calls.first c.replay-before.result.0 in
-    let kept = agree (t.region u) (t.sides u) (t.origin u) _ es (length old.rest.first.store.now) old.rest.rest.values old.rest.rest.steps c.replay-before.result.1.0 c.replay-before.result.1.1 c.replay-before.ensures.law in
-    record { judged = kept.0; dried = kept.1; same = kept.2; stays = c.replay-before.ensures.stays; law = c.replay-before.ensures.law }
+    let r = c.play_calls-before in
+    let es = g.C.Calls.events old.first r.new.calls.first r.result.0 in
+    let kept = agree (g.T.Travel.envelope c.args.travel) old.rest.rest.values old.rest.rest.steps r.result.1.1 g.D.Domain.lattice (length old.rest.first.store.now) r.result.1.0 es r.ensures.law in
+    record { judged = kept.judged; dried = kept.dries; same = kept.same; stays = r.ensures.stays; law = r.ensures.law }

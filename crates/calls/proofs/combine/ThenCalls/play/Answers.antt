@@ -8,5 +8,5 @@ returns g c =
     let rest = c.play-rest.ensures in
     let es = g.A.Calls.events c.args.self.now.first c.play-first.new.self c.play-first.result in
     let fs = g.B.Calls.events c.args.self.now.rest c.play-rest.new.self c.play-rest.result in
-    let both = played_both t.region t.sides t.origin _ _ _ _ _ _ es fs (record { kept = first.kept; left = first.left; travel = first.travel }) (record { kept = rest.kept; left = rest.left; travel = rest.travel }) in
+    let both = played_both t.envelope _ _ _ _ _ _ es fs (record { kept = first.kept; left = first.left; travel = first.travel }) (record { kept = rest.kept; left = rest.left; travel = rest.travel }) in
     record { kept = both.kept; left = both.left; stays = (first.stays, rest.stays); travel = both.travel }

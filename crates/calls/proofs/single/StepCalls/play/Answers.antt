@@ -6,5 +6,5 @@ use Rattle.calls.proofs.single.StepCalls.play.Goals as goal
 pub returns-clause-kept : goal.returns-clause-kept
 returns-clause-kept g c =
     let done = c.step.ensures in
-    let region = g.T.Travel.region c.args.session.now.travel in
-    (step_by region (memory c.args.session.now) (memory c.step.new.self).run c.step.result done.says done.plain done.inside (ap (λ (m : Memory). m.run) done.does), tt)
+    let s = c.args.session.now in
+    (step_by (g.T.Travel.envelope s.travel) (memory s) (memory c.step.new.self).run c.step.result done.says done.plain done.inside (ap (λ (m : Memory). m.run) done.does), tt)

@@ -23,9 +23,9 @@ loop-n-preserved g c =
     let in-ds : n < length ds = omega arith in
     let in-rs : n < length rs = omega arith in
     let more = recorded_more f cs ds rs n _ c.play.new.self c.play.result in-cs in-ds in-rs before.rest in
-    let both = played_both t.region t.sides t.origin _ _ _ _ _ _ _ _ before.played (record { kept = one.kept; left = one.left; travel = one.travel }) in
+    let both = played_both t.envelope _ _ _ _ _ _ _ _ before.played (record { kept = one.kept; left = one.left; travel = one.travel }) in
     record {
-      played = subst (λ (es : List Event). Played t.region t.sides t.origin c.args.session.now.travel c.play.new.session.travel (memory c.args.session.now) (memory c.play.new.session) es) (sym more) both;
+      played = subst (λ (es : List Event). Played t.envelope c.args.session.now.travel c.play.new.session.travel (memory c.args.session.now) (memory c.play.new.session) es) (sym more) both;
       rest = drop-set-lt (n + 1) ds n c.play.new.self (omega arith) ∙ drop_more_same ds cs n before.rest;
       calls = (before.calls.0, length-set ds n c.play.new.self ∙ before.calls.1);
       answers = (before.answers.0, length-set rs n c.play.result ∙ before.answers.1);
@@ -38,7 +38,7 @@ returns g c =
     let t = g.T.Travel in
     let l = c.loop-n in
     let all = recorded_all g.C.Calls.events c.args.self.now.calls.now l.self.calls.now l.self.answers.now l.n (λ p q. omega arith) in
-    let played = subst (λ (es : List Event). Played t.region t.sides t.origin c.args.session.now.travel l.session.travel (memory c.args.session.now) (memory l.session) es) all l.invariant.played in
+    let played = subst (λ (es : List Event). Played t.envelope c.args.session.now.travel l.session.travel (memory c.args.session.now) (memory l.session) es) all l.invariant.played in
     let all_played : l.n ≡ min (length c.args.self.now.calls.now) (length c.args.self.now.answers.now) = omega arith in
     let each = subst (λ (n : ℕ). EachStays g.C.Calls.stays n c.args.self.now.calls.now l.self.calls.now c.args.self.now.answers.now l.self.answers.now) all_played (record { played = l.invariant.each; calls = l.invariant.rest; answers = l.invariant.later }) in
     record { kept = played.kept; left = played.left; stays = (l.invariant.calls, l.invariant.answers, each); travel = played.travel }

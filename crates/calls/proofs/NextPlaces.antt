@@ -5,7 +5,7 @@ use Rattle.model.specs.Environments.{Env}
 use Rattle.model.specs.Programs.{Closed}
 use Rattle.model.specs.Runs.{goes, commands, Outcome, Steps}
 use Rattle.model.proofs.Stepping.{one_step, steps_inner}
-use Rattle.calls.specs.Law.{Onward, by_going, by_command, at_end}
+use Rattle.calls.specs.Law.{Answer, NextPlace, by_going, by_command, at_end}
 
 abbrev Place : ℕ → Env → ℕ → Env → Type 0
 Place j f k g = (j ≡ k) × (f ≡ g)
@@ -20,12 +20,12 @@ commands_one : {j k : ℕ} {f g : Env} → commands j f ≡ commands k g → Pla
 commands_one e = (cc, cc)
 
 apart : {P : Type 0} {j k : ℕ} {f g : Env} → goes j f ≡ commands k g → P
-apart e = let z : ◌≡◌ {A = ℕ} 0 1 = cc in absurd (omega arith)
+apart e = absurd (cc)
 
 apart_too : {P : Type 0} {j k : ℕ} {f g : Env} → commands j f ≡ goes k g → P
-apart_too e = let z : ◌≡◌ {A = ℕ} 0 1 = cc in absurd (omega arith)
+apart_too e = absurd (cc)
 
-pub one_place : {lines : List Line} {i j k : ℕ} {e f g : Env} → Closed lines → Onward lines i e j f → Onward lines i e k g → Place j f k g
+pub one_place : {lines : List Line} {i j k : ℕ} {e f g : Env} {a b : Answer} → Closed lines → NextPlace lines i e a j f → NextPlace lines i e b k g → Place j f k g
 one_place {lines = lines} c (by_going s) (by_going t) = goes_one ((one_step lines c).only _ _ _ _ s t)
 one_place {lines = lines} c (by_going s) (by_command t) = apart ((one_step lines c).only _ _ _ _ s t)
 one_place c (by_going s) (at_end h) = not_past s h
@@ -34,4 +34,4 @@ one_place {lines = lines} c (by_command s) (by_command t) = commands_one ((one_s
 one_place c (by_command s) (at_end h) = not_past s h
 one_place c (at_end h) (by_going t) = not_past t h
 one_place c (at_end h) (by_command t) = not_past t h
-one_place c (at_end h) (at_end l) = (refl, refl)
+one_place c (at_end h) (at_end k) = (refl, refl)
