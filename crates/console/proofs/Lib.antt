@@ -3,6 +3,7 @@ pub mod LineFeeds
 pub mod Cuts
 pub mod PairCut
 pub mod FewBlocks
+pub mod Told
 pub mod Answered
 pub mod Reported
 pub mod Judged

@@ -1,135 +1,122 @@
 -- What the answers to the calls of an input are reported as is the report on what is read of it.
-use Rattle.std.proofs.Common.{◌≡◌, ℕ, ◌+◌, ◌≤◌, Bool, true, false, cond, ltb, List, [], ◌∷◌, ◌++◌, length, None, Some, is_none, Option, Ok, Err, Result, refl, sym, ap, ◌∙◌, subst, subst₂, arith}
+use Rattle.std.proofs.Common.{◌≡◌, ℕ, ◌+◌, ◌≤◌, Bool, true, false, cond, ltb, List, [], ◌∷◌, ◌++◌, length, None, Some, is_none, Option, Ok, Err, Result, refl, sym, ap, ◌∙◌, subst, arith}
 use Rattle.std.proofs.lemmas.Bool.{both_ways}
 use Rattle.std.proofs.lemmas.Bool.Decides.{nat_tests}
-use Rattle.model.specs.Blocks.{closed, labels}
+use Rattle.model.specs.Blocks.{closed}
 use Rattle.model.specs.declared.line.Line.{Line}
 use Rattle.model.specs.declared.range.Range.{Range}
-use Rattle.travel.specs.Gantries.{GantryRegion, gantry_sides}
+use Rattle.model.specs.Envelopes.{Envelope}
+use Rattle.travel.specs.Gantries.{gantry_envelope}
 use Rattle.travel.specs.declared.gantry.Gantry.{Gantry}
-use Rattle.program.specs.Entry.{line_number, line_place}
-use Rattle.program.specs.Refusals.{max_blocks}
+use Rattle.program.specs.Limits.{max_blocks}
 use Rattle.program.specs.declared.refusal.LineRefusal.{LineRefusal}
-use Rattle.session.specs.Answers.{no_ranges, allow_number}
+use Rattle.session.specs.Answers.{no_ranges}
 use Rattle.session.specs.declared.refusal.AllowRefusal.{AllowRefusal}
-use Rattle.certify.specs.Certifies.{Answer, TheVerdict, Promised}
-use Rattle.certify.specs.declared.refusal.CertifyRefusal.TheVariants.{Open, Store, Uncertified}
+use Rattle.sweep.specs.Blocks.{states_for}
+use Rattle.certify.specs.Certifies.{Answer as Verdict, TheVerdict, Promised}
+use Rattle.certify.specs.declared.refusal.CertifyRefusal.TheVariants.{Open as Unclosed, Store, Uncertified as Fails}
 use Rattle.calls.specs.declared.single.Allow.{Allow}
-use Rattle.calls.specs.Answers.{domain, event}
-use Rattle.calls.specs.Law.{Event, Lawfully, program_of, allowed_of}
-use Rattle.calls.specs.Said.{Said, Detail, done, certificate, came, went_on, commanded, ended, refused, nothing, place, parameter, failure, by_verdict}
-use Rattle.calls.specs.Law.{certify}
-use Rattle.console.specs.Asked.{asked_ranges, program_lines, first_refusal, allow_events, line_events, Replayed, verdict_report, report_by}
+use Rattle.calls.specs.Events.{domain}
+use Rattle.calls.specs.Law.{Event, by_verdict, standing, After, AnswersCertify, Lawful, allowed_after}
+use Rattle.calls.proofs.Computed.{program_of, after_computed}
+use Rattle.console.specs.declared.refusal.Refusal.{Refusal}
+use Rattle.console.specs.declared.refusal.Refusal.TheVariants.{Input, RangeText, Allow as OfAllow, Line as OfLine, Open}
+use Rattle.console.specs.declared.report.Report.{Report}
+use Rattle.console.specs.Asked.{asked_ranges, program_lines, first_refusal, allow_events, line_events, certify_event, Played, ReportsVerdict, ReportsAnswers}
 use Rattle.console.specs.Lines.{lines_of}
 use Rattle.console.specs.Readings.{max_input, Reading, whole, stopped_at, Skipped, rest, stopped, by_skipped, skip, ending, program_reading, reading_of}
-use Rattle.console.specs.Report.{Outcome, or_zero}
+use Rattle.console.specs.Report.{refused_at}
 use Rattle.console.specs.Verdicts.{lattice, Reported, Promises}
 use Rattle.console.proofs.Answered.{ReadRanges, ReadLines, ranges_read, lines_read, with_ranges, with_lines}
-
--- ---- a verdict of the law is one answer
-abbrev refusal_in : Detail → Answer
-refusal_in nothing = Err Open
-refusal_in (place p) = Err Open
-refusal_in (parameter n) = Err Open
-refusal_in (failure f) = Err (Uncertified f)
-
-abbrev verdict_in : Said → Answer
-verdict_in done = Err Open
-verdict_in (certificate hs) = Ok (record { hulls = hs })
-verdict_in (came o) = Err Open
-verdict_in went_on = Err Open
-verdict_in (commanded p) = Err Open
-verdict_in ended = Err Open
-verdict_in (refused k nothing) = cond (ltb k 32) (Err Open) (Err Store)
-verdict_in (refused k (place p)) = Err Open
-verdict_in (refused k (parameter n)) = Err Open
-verdict_in (refused k (failure f)) = Err (Uncertified f)
-
-verdict_back : (v : Answer) → verdict_in (by_verdict v) ≡ v
-verdict_back (Ok c) = refl
-verdict_back (Err Open) = refl
-verdict_back (Err Store) = refl
-verdict_back (Err (Uncertified f)) = refl
-
-pub same_verdict : (v w : Answer) → by_verdict v ≡ by_verdict w → w ≡ v
-same_verdict v w e = sym (verdict_back w) ∙ ap verdict_in (sym e) ∙ verdict_back v
+use Rattle.console.proofs.Told.{one_verdict}
 
 module _ (g : Gantry) where
+  abbrev bench : Envelope
+  bench = gantry_envelope g
+
   -- a report by the rules, and what a certificate promises
-  pub record Judgement (r : Reading) (o : Outcome) : Type 0 where
+  pub record Judgement (r : Reading) (o : Report) : Type 0 where
     pub reported : Reported g r o
     pub promised : Promises g r o
 
+  -- a refusal is reported as it is
+  stopped_report : (n : ℕ) (why : Refusal) (r : Report) → r ≡ refused_at n why → Judgement (stopped_at n why) r
+  stopped_report n why r e = record { reported = e; promised = tt }
+
   -- ---- the verdict
-  module _ (xs : List Line) (ts : List Range) (few : length (labels xs) ≤ max_blocks) where
-    judged_by : (v : Answer) → TheVerdict lattice xs (gantry_sides g) g.ends.home ts max_blocks v → Promised xs (gantry_sides g) g.ends.home ts v → closed xs ≡ true → Judgement (whole ts xs) (verdict_report v)
-    judged_by (Ok c) t p e = record { reported = t; promised = p }
-    judged_by (Err Open) t p e = absurd (both_ways (closed xs) t.is e)
-    judged_by (Err Store) t p e = let s = t.is.1 in absurd (omega arith)
-    judged_by (Err (Uncertified f)) t p e = record { reported = t; promised = tt }
+  module _ (xs : List Line) (ts : List Range) (few : states_for xs ≤ max_blocks) where
+    judged_by : (v : Verdict) (r : Report) → TheVerdict lattice xs bench ts max_blocks v → Promised xs bench ts v → closed xs ≡ true → ReportsVerdict v r → Judgement (whole ts xs) r
+    judged_by (Ok c) r t p e is = subst (Judgement (whole ts xs)) (sym is) (record { reported = t; promised = p })
+    judged_by (Err Unclosed) r t p e is = absurd (both_ways (closed xs) t.is e)
+    judged_by (Err Store) r t p e is = absurd is
+    judged_by (Err (Fails f)) r t p e is = subst (Judgement (whole ts xs)) (sym is) (record { reported = t; promised = tt })
 
-    left_open : (v : Answer) → TheVerdict lattice xs (gantry_sides g) g.ends.home ts max_blocks v → closed xs ≡ false → Judgement (stopped_at 0 31 0) (verdict_report v)
-    left_open v t e = subst (λ w. Judgement (stopped_at 0 31 0) (verdict_report w)) (t.only (Err Open) e) (record { reported = refl; promised = tt })
+    left_open : (v : Verdict) (r : Report) → TheVerdict lattice xs bench ts max_blocks v → closed xs ≡ false → ReportsVerdict v r → Judgement (stopped_at 0 Open) r
+    left_open v r t e is = stopped_report 0 Open r (subst (λ w. ReportsVerdict w r) (sym (t.only (Err Unclosed) e)) is)
 
-    pub verdict_reported : (v : Answer) → TheVerdict lattice xs (gantry_sides g) g.ends.home ts max_blocks v → Promised xs (gantry_sides g) g.ends.home ts v → Judgement (ending ts xs) (verdict_report v)
-    verdict_reported v t p = go (closed xs) refl
+    pub verdict_reported : (v : Verdict) (r : Report) → TheVerdict lattice xs bench ts max_blocks v → Promised xs bench ts v → ReportsVerdict v r → Judgement (ending ts xs) r
+    verdict_reported v r t p is = go (closed xs) refl
       where
-        go : (b : Bool) → closed xs ≡ b → Judgement (cond b (whole ts xs) (stopped_at 0 31 0)) (verdict_report v)
-        go true e = judged_by v t p e
-        go false e = left_open v t e
+        go : (b : Bool) → closed xs ≡ b → Judgement (cond b (whole ts xs) (stopped_at 0 Open)) r
+        go true e = judged_by v r t p e is
+        go false e = left_open v r t e is
 
     -- all states that a program can need are lent
-    pub never_short : (v : Answer) → TheVerdict lattice xs (gantry_sides g) g.ends.home ts max_blocks v → v ≡ Err Store → ⊥
-    never_short v t e = let s = (subst (TheVerdict lattice xs (gantry_sides g) g.ends.home ts max_blocks) e t).is.1 in omega arith
+    pub never_short : (v : Verdict) → TheVerdict lattice xs bench ts max_blocks v → v ≡ Err Store → ⊥
+    never_short v t e = let s = (subst (TheVerdict lattice xs bench ts max_blocks) e t).is.1 in omega arith
+
+  -- the law has one verdict on what stands
+  module _ (past : List Event) (v : Verdict) (k : After bench past (λ now. AnswersCertify bench now (domain lattice) max_blocks (by_verdict v))) where
+    answers : AnswersCertify bench (standing bench.home past (program_of past)) (domain lattice) max_blocks (by_verdict v)
+    answers = after_computed bench past (λ now. AnswersCertify bench now (domain lattice) max_blocks (by_verdict v)) k
+
+    pub the_verdict : TheVerdict lattice (program_of past) bench (allowed_after past) max_blocks v
+    the_verdict = subst (TheVerdict lattice (program_of past) bench (allowed_after past) max_blocks) (one_verdict v answers.verdict answers.is) answers.the_verdict
+
+    pub promised_by : Promised (program_of past) bench (allowed_after past) v
+    promised_by = subst (Promised (program_of past) bench (allowed_after past)) (one_verdict v answers.verdict answers.is) answers.promised
 
   -- ---- the whole input
-  abbrev pub asked_certify : Answer → List Event
-  asked_certify v = event (certify (domain lattice true) max_blocks) (by_verdict v) ∷ []
-
   -- the program with its certify, behind the ranges
-  module _ (past : List Event) (ss : List (List ℕ)) (qs : List (Result (Unit {0}) LineRefusal)) (v : Answer) where
-    by_lines : (f : Option (ℕ × LineRefusal)) → ReadLines (GantryRegion g) (gantry_sides g) g.ends.home 0 (allowed_of past) past ss f (asked_certify v) → length (labels (program_of past)) ≤ max_blocks
-        → Judgement (program_reading (0 + 1) (allowed_of past) (program_of past) ss) (report_by None false f v)
-    by_lines (Some p) r b =
-        let here : 0 + p.0 ≡ p.0 = omega arith in
-        let reads = r ∙ ap (λ n. stopped_at n (line_number p.1) (or_zero (line_place p.1))) here in
-        subst (λ x. Judgement x (report_by None false (Some p) v)) (sym reads) (record { reported = refl; promised = tt })
-    by_lines None r b =
-        let k = r.lawful.0.0 in
-        let w = same_verdict v k.0 k.3 in
-        let after = with_lines (GantryRegion g) (gantry_sides g) g.ends.home ss past in
-        let t = subst₂ (λ ts u. TheVerdict lattice (program_of after) (gantry_sides g) g.ends.home ts max_blocks u) r.allowed w k.1 in
-        let p = subst₂ (λ ts u. Promised (program_of after) (gantry_sides g) g.ends.home ts u) r.allowed w k.2 in
-        subst (λ x. Judgement x (verdict_report v)) (sym r.reads) (verdict_reported (program_of after) (allowed_of past) (r.few b) v t p)
+  module _ (past : List Event) (ss : List (List ℕ)) (v : Verdict) (r : Report) where
+    abbrev after_lines : List Event
+    after_lines = with_lines ss past
 
-  -- nothing held and nothing allowed, where a session is just made
-  abbrev fresh : List Event
-  fresh = []
+    by_lines : (f : Option (ℕ × LineRefusal)) → ReadLines bench 0 (allowed_after past) past ss f (certify_event v ∷ []) → states_for (program_of past) ≤ max_blocks → ReportsAnswers None false f v r
+        → Judgement (program_reading (0 + 1) (allowed_after past) (program_of past) ss) r
+    by_lines (Some p) reads few is =
+        let here : 0 + p.0 ≡ p.0 = omega arith in
+        subst (λ x. Judgement x r) (sym (reads ∙ ap (λ n. stopped_at n (OfLine p.1)) here)) (stopped_report p.0 (OfLine p.1) r is)
+    by_lines None reads few is =
+        let now = program_of after_lines in
+        let t = subst (λ ts. TheVerdict lattice now bench ts max_blocks v) reads.allowed (the_verdict after_lines v reads.lawful.0) in
+        let p = subst (λ ts. Promised now bench ts v) reads.allowed (promised_by after_lines v reads.lawful.0) in
+        subst (λ x. Judgement x r) (sym reads.reads) (verdict_reported now (allowed_after past) (reads.few few) v r t p is)
 
   module _ (bs : List ℕ) (short : length bs ≤ max_input) where
     reading_by : (s : Skipped) → skip no_ranges (lines_of bs) ≡ s → by_skipped s ≡ reading_of bs
     reading_by s e =
         let t : ltb max_input (length bs) ≡ false = grind (arith, nat_tests) in
-        sym ((λ i. cond (t i) (stopped_at 0 46 0) (by_skipped (skip no_ranges (lines_of bs)))) ∙ ap by_skipped e)
+        sym ((λ i. cond (t i) (stopped_at 0 Input) (by_skipped (skip no_ranges (lines_of bs)))) ∙ ap by_skipped e)
 
-    by_ranges : (f : Option (ℕ × AllowRefusal)) (o : Option (List (List ℕ))) (ss : List (List ℕ)) (qs : List (Result (Unit {0}) LineRefusal)) (v : Answer)
-        → ((ps : List (List ℕ)) → o ≡ Some ps → ss ≡ ps) → length qs ≡ length ss
-        → ReadRanges (GantryRegion g) (gantry_sides g) g.ends.home fresh (lines_of bs) f o (line_events ss qs ++ asked_certify v)
-        → Judgement (reading_of bs) (report_by f (is_none o) (first_refusal qs) v)
-    by_ranges (Some p) o ss qs v same e r = subst (λ x. Judgement x (report_by (Some p) (is_none o) (first_refusal qs) v)) (reading_by (stopped (allow_number p.1)) r) (record { reported = refl; promised = tt })
-    by_ranges None None ss qs v same e r = subst (λ x. Judgement x (report_by None true (first_refusal qs) v)) (reading_by (stopped 13) r) (record { reported = refl; promised = tt })
-    by_ranges None (Some ps) ss qs v same e r =
-        let after = with_ranges (GantryRegion g) (gantry_sides g) g.ends.home (asked_ranges (lines_of bs)) fresh in
+    by_ranges : (f : Option (ℕ × AllowRefusal)) (o : Option (List (List ℕ))) (ss : List (List ℕ)) (qs : List (Result (Unit {0}) LineRefusal)) (v : Verdict) (r : Report)
+        → ((ps : List (List ℕ)) → o ≡ Some ps → ss ≡ ps) → length qs ≡ length ss → ReadRanges bench [] (lines_of bs) f o (line_events ss qs ++ (certify_event v ∷ []))
+        → ReportsAnswers f (is_none o) (first_refusal qs) v r → Judgement (reading_of bs) r
+    by_ranges (Some p) o ss qs v r same e reads is = subst (λ x. Judgement x r) (reading_by (stopped (OfAllow p.1)) reads) (stopped_report 0 (OfAllow p.1) r is)
+    by_ranges None None ss qs v r same e reads is = subst (λ x. Judgement x r) (reading_by (stopped RangeText) reads) (stopped_report 0 RangeText r is)
+    by_ranges None (Some ps) ss qs v r same e reads is =
+        let after = with_ranges (asked_ranges (lines_of bs)) [] in
         let here = same ps refl in
-        let lines = lines_read (GantryRegion g) (gantry_sides g) g.ends.home 0 (allowed_of after) after ss qs (asked_certify v) e r.lawful in
-        let few : length (labels (program_of after)) ≤ max_blocks = subst (λ xs. length (labels xs) ≤ max_blocks) (sym r.program) (omega arith) in
-        let reads : program_reading 1 (allowed_of after) (program_of after) ss ≡ reading_of bs = (λ i. program_reading 1 (allowed_of after) (r.program i) (here i)) ∙ reading_by (rest (allowed_of after) ps) r.skips in
-        subst (λ x. Judgement x (report_by None false (first_refusal qs) v)) reads (by_lines after ss qs v (first_refusal qs) lines few)
+        let lines = lines_read bench 0 (allowed_after after) after ss qs (certify_event v ∷ []) e reads.lawful in
+        let few : states_for (program_of after) ≤ max_blocks = subst (λ xs. states_for xs ≤ max_blocks) (sym reads.program) (omega arith) in
+        let whole_reading : program_reading 1 (allowed_after after) (program_of after) ss ≡ reading_of bs =
+        (λ i. program_reading 1 (allowed_after after) (reads.program i) (here i)) ∙ reading_by (rest (allowed_after after) ps) reads.skips in
+        subst (λ x. Judgement x r) whole_reading (by_lines after ss v r (first_refusal qs) lines few is)
 
-    pub answers_reported : (cs : List Allow) (ss : List (List ℕ)) (rs : List (Result (Unit {0}) AllowRefusal)) (qs : List (Result (Unit {0}) LineRefusal)) (v : Answer)
+    pub answers_reported : (cs : List Allow) (ss : List (List ℕ)) (rs : List (Result (Unit {0}) AllowRefusal)) (qs : List (Result (Unit {0}) LineRefusal)) (v : Verdict) (r : Report)
         → cs ≡ asked_ranges (lines_of bs) → ((ps : List (List ℕ)) → program_lines (lines_of bs) ≡ Some ps → ss ≡ ps) → length rs ≡ length cs → length qs ≡ length ss
-        → Replayed cs ss rs qs v g → Judgement (reading_of bs) (report_by (first_refusal rs) (is_none (program_lines (lines_of bs))) (first_refusal qs) v)
-    answers_reported cs ss rs qs v asked same long lines k =
-        by_ranges (first_refusal rs) (program_lines (lines_of bs)) ss qs v same lines
-        (ranges_read (GantryRegion g) (gantry_sides g) g.ends.home fresh (lines_of bs) rs (line_events ss qs ++ asked_certify v) (long ∙ ap length asked)
-        (subst (λ ds. Lawfully (GantryRegion g) (gantry_sides g) g.ends.home [] (allow_events ds rs ++ (line_events ss qs ++ asked_certify v))) asked k))
+        → Played cs ss rs qs v g → ReportsAnswers (first_refusal rs) (is_none (program_lines (lines_of bs))) (first_refusal qs) v r → Judgement (reading_of bs) r
+    answers_reported cs ss rs qs v r asked same long lines k =
+        by_ranges (first_refusal rs) (program_lines (lines_of bs)) ss qs v r same lines
+        (ranges_read bench [] (lines_of bs) rs (line_events ss qs ++ (certify_event v ∷ [])) (long ∙ ap length asked)
+        (subst (λ ds. Lawful bench [] (allow_events ds rs ++ (line_events ss qs ++ (certify_event v ∷ [])))) asked k))

@@ -1,25 +1,25 @@
--- What calls an input asks for.
+-- What calls an input asks for, and what is reported of their answers.
 use Rattle.std.specs.Prelude.{◌≡◌, ℕ, ◌+◌, Bool, true, false, cond, List, [], ◌∷◌, ◌++◌, length, Some, None, Ok, Err, Option, Result}
 use Rattle.travel.specs.Benches.{bench_gantry}
-use Rattle.travel.specs.Gantries.{GantryRegion, gantry_sides, GantryMade}
+use Rattle.travel.specs.Gantries.{gantry_envelope, GantryMade}
 use Rattle.travel.specs.declared.gantry.Gantry.{Gantry}
-use Rattle.program.specs.Entry.{line_said, line_number, line_place}
-use Rattle.program.specs.Refusals.{max_blocks}
+use Rattle.program.specs.Limits.{max_blocks}
+use Rattle.program.specs.Numbers.{line_refusal}
 use Rattle.program.specs.declared.refusal.LineRefusal.{LineRefusal}
-use Rattle.session.specs.Answers.{allow_said, allow_number}
+use Rattle.session.specs.Refusals.{allow_refusal}
 use Rattle.session.specs.declared.refusal.AllowRefusal.{AllowRefusal}
-use Rattle.sweep.specs.Sweeps.{certified, uncertified}
-use Rattle.certify.specs.Certifies.{Answer}
-use Rattle.certify.specs.declared.refusal.CertifyRefusal.TheVariants.{Open, Store, Uncertified}
-use Rattle.calls.specs.Answers.{domain, event}
-use Rattle.calls.specs.Law.{Event, Lawfully}
-use Rattle.calls.specs.Said.{by_line, by_number, by_verdict}
-use Rattle.calls.specs.Law.{line, allow, certify}
+use Rattle.certify.specs.Certifies.{Answer as Verdict}
+use Rattle.certify.specs.declared.refusal.CertifyRefusal.TheVariants.{Open as Unclosed, Store, Uncertified as Fails}
+use Rattle.calls.specs.Events.{domain}
+use Rattle.calls.specs.Law.{Event, event, line, allow, certify, done_or, by_verdict, Lawful}
 use Rattle.calls.specs.declared.single.Allow.{Allow}
 use Rattle.console.specs.declared.range_line.RangeLine.{RangeLine}
+use Rattle.console.specs.declared.refusal.Refusal.TheVariants.{RangeText, Allow as OfAllow, Line as OfLine, Open}
+use Rattle.console.specs.declared.report.Report.{Report}
+use Rattle.console.specs.declared.report.Report.TheVariants.{Certified, Uncertified}
 use Rattle.console.specs.RangeLines.{range_of}
 use Rattle.console.specs.Readings.{is_range}
-use Rattle.console.specs.Report.{Outcome, judged, refused_at, or_zero}
+use Rattle.console.specs.Report.{refused_at}
 use Rattle.console.specs.Verdicts.{lattice}
 
 abbrev pub ask : RangeLine → Allow
@@ -57,38 +57,45 @@ first_refusal (Err e ∷ rs) = Some (1, e)
 abbrev pub allow_events : List Allow → List (Result (Unit {0}) AllowRefusal) → List Event
 allow_events [] rs = []
 allow_events (c ∷ cs) [] = []
-allow_events (c ∷ cs) (r ∷ rs) = event (allow c.parameter c.range) (by_number (allow_said r)) ∷ allow_events cs rs
+allow_events (c ∷ cs) (r ∷ rs) = event (allow c.parameter c.range) (done_or allow_refusal r) ∷ allow_events cs rs
 
 abbrev pub line_events : List (List ℕ) → List (Result (Unit {0}) LineRefusal) → List Event
 line_events [] rs = []
 line_events (s ∷ ss) [] = []
-line_events (s ∷ ss) (r ∷ rs) = event (line s) (by_line (line_said r)) ∷ line_events ss rs
+line_events (s ∷ ss) (r ∷ rs) = event (line s) (done_or line_refusal r) ∷ line_events ss rs
 
--- the ranges, the lines, and a certify with a state for each block that a program may have; on a session just made they keep the law
-abbrev pub Replayed : List Allow → List (List ℕ) → List (Result (Unit {0}) AllowRefusal) → List (Result (Unit {0}) LineRefusal) → Answer → Gantry → Type 0
-Replayed cs ss rs qs v g = Lawfully (GantryRegion g) (gantry_sides g) g.ends.home [] (allow_events cs rs ++ (line_events ss qs ++ (event (certify (domain lattice true) max_blocks) (by_verdict v) ∷ [])))
+-- a certify with a state for each block that a program may have
+abbrev pub certify_event : Verdict → Event
+certify_event v = event (certify (domain lattice) max_blocks) (by_verdict v)
 
--- what is reported: a range that is refused comes before a malformed range line behind it, and these before the program
-abbrev pub verdict_report : Answer → Outcome
-verdict_report (Ok c) = judged (certified c.hulls)
-verdict_report (Err Open) = refused_at 0 31 0
-verdict_report (Err Store) = refused_at 0 32 0
-verdict_report (Err (Uncertified f)) = judged (uncertified f)
+-- the ranges, the lines, and the certify; on a session just made they keep the law
+abbrev pub Played : List Allow → List (List ℕ) → List (Result (Unit {0}) AllowRefusal) → List (Result (Unit {0}) LineRefusal) → Verdict → Gantry →
+    Type 0
+Played cs ss rs qs v g = Lawful (gantry_envelope g) [] (allow_events cs rs ++ (line_events ss qs ++ (certify_event v ∷ [])))
 
-abbrev pub report_by : Option (ℕ × AllowRefusal) → Bool → Option (ℕ × LineRefusal) → Answer → Outcome
-report_by (Some p) malformed q v = refused_at 0 (allow_number p.1) 0
-report_by None true q v = refused_at 0 13 0
-report_by None false (Some q) v = refused_at q.0 (line_number q.1) (or_zero (line_place q.1))
-report_by None false None v = verdict_report v
+-- ---- the report on the answers
+-- that fewer states are lent than there are blocks is never answered
+abbrev pub ReportsVerdict : Verdict → Report → Type 0
+ReportsVerdict (Ok c) r = r ≡ Certified c
+ReportsVerdict (Err Unclosed) r = r ≡ refused_at 0 Open
+ReportsVerdict (Err Store) r = ⊥
+ReportsVerdict (Err (Fails f)) r = r ≡ Uncertified f
+
+-- a range that is refused comes before a malformed range line behind it, and these before the program
+abbrev pub ReportsAnswers : Option (ℕ × AllowRefusal) → Bool → Option (ℕ × LineRefusal) → Verdict → Report → Type 0
+ReportsAnswers (Some p) malformed q v r = r ≡ refused_at 0 (OfAllow p.1)
+ReportsAnswers None true q v r = r ≡ refused_at 0 RangeText
+ReportsAnswers None false (Some q) v r = r ≡ refused_at q.0 (OfLine q.1)
+ReportsAnswers None false None v r = ReportsVerdict v r
 
 -- answers that keep the law, on a gantry with the ends of the examples, and the report on them
-pub record Answered (cs : List Allow) (malformed : Bool) (ss : List (List ℕ)) (o : Outcome) : Type 0 where
+pub record Answered (cs : List Allow) (malformed : Bool) (ss : List (List ℕ)) (r : Report) : Type 0 where
   pub gantry : Gantry
   pub made : GantryMade bench_gantry (Ok gantry)
   pub allowed : List (Result (Unit {0}) AllowRefusal)
   pub all_allowed : length allowed ≡ length cs
   pub taken : List (Result (Unit {0}) LineRefusal)
   pub all_taken : length taken ≡ length ss
-  pub verdict : Answer
-  pub replayed : Replayed cs ss allowed taken verdict gantry
-  pub is : o ≡ report_by (first_refusal allowed) malformed (first_refusal taken) verdict
+  pub verdict : Verdict
+  pub played : Played cs ss allowed taken verdict gantry
+  pub is : ReportsAnswers (first_refusal allowed) malformed (first_refusal taken) verdict r

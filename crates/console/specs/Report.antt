@@ -1,44 +1,38 @@
--- What is reported on an input, and its text. What was read of an input is computed in Readings; the law, as a relation, is in Law.
+-- The text of a report, and what a refusal tells. Which report an input gets is in Law.
 use Rattle.std.specs.Prelude.{ℕ, List, ◌++◌, Some, None, codes, decimal, Option, slice_index_or}
 use Rattle.std.specs.Fmt.{signed_decimal}
+use Rattle.model.specs.Refusals.{Told, told, nothing, place_in}
 use Rattle.model.specs.declared.range.Range.{Range}
-use Rattle.program.specs.Entry.{line_number, line_place}
-use Rattle.session.specs.Answers.{allow_number}
-use Rattle.sweep.specs.Sweeps.{Verdict, certified, uncertified}
+use Rattle.program.specs.Numbers.{line_refusal}
+use Rattle.certify.specs.Refusals.{certify_refusal}
+use Rattle.certify.specs.declared.refusal.CertifyRefusal.TheVariants.{Open as Unclosed}
+use Rattle.session.specs.Refusals.{allow_refusal}
 use Rattle.console.specs.Failures.{failure_text}
 use Rattle.console.specs.declared.refusal.Refusal.{Refusal}
-use Rattle.console.specs.declared.refusal.Refusal.TheVariants.{Input, RangeText, Allow as OfAllow, Line as OfLine, Open}
+use Rattle.console.specs.declared.refusal.Refusal.TheVariants.{Input, RangeText, Allow, Line, Open}
 use Rattle.console.specs.declared.report.Report.{Report}
 use Rattle.console.specs.declared.report.Report.TheVariants.{Certified, Uncertified, Refused}
 
--- the verdict on a program that was read whole; or a line, 0 for none, is refused with a number and a place, 0 for none
-pub data Outcome : Type 0 where
-  judged : Verdict → Outcome
-  refused_at : ℕ → ℕ → ℕ → Outcome
-
--- ---- refusals by number and place
-abbrev pub refusal_number : Refusal → ℕ
-refusal_number Input = 46
-refusal_number RangeText = 13
-refusal_number (OfAllow e) = allow_number e
-refusal_number (OfLine e) = line_number e
-refusal_number Open = 31
+-- ---- refusals
+-- an open block is refused as by certify
+abbrev pub input_refusal : Refusal → Told
+input_refusal Input = told 46 nothing
+input_refusal RangeText = told 13 nothing
+input_refusal (Allow why) = allow_refusal why
+input_refusal (Line why) = line_refusal why
+input_refusal Open = certify_refusal Unclosed
 
 abbrev pub or_zero : Option ℕ → ℕ
 or_zero (Some n) = n
 or_zero None = 0
 
-abbrev pub refusal_place : Refusal → ℕ
-refusal_place Input = 0
-refusal_place RangeText = 0
-refusal_place (OfAllow e) = 0
-refusal_place (OfLine e) = or_zero (line_place e)
-refusal_place Open = 0
+-- the refusal of a line, 0 where none of the program is refused
+abbrev pub refused_at : ℕ → Refusal → Report
+refused_at n why = Refused (record { line = n; refusal = why })
 
-abbrev pub said : Report → Outcome
-said (Certified c) = judged (certified c.hulls)
-said (Uncertified f) = judged (uncertified f)
-said (Refused e) = refused_at e.line (refusal_number e.refusal) (refusal_place e.refusal)
+-- the place that is printed, 0 where there is none
+abbrev pub printed_place : Told → ℕ
+printed_place t = or_zero (place_in t.detail)
 
 -- ---- the text, byte by byte; the line feed after it is the printer's
 -- the lowest and the highest position of an axis, if any move can be reached
@@ -54,10 +48,11 @@ hulls_text hs =
     ++ (codes "\nZ " ++ (hull_text (slice_index_or hs 2 None)
     ++ (codes "\nU " ++ hull_text (slice_index_or hs 3 None)))))))
 
-abbrev pub verdict_text : Verdict → List ℕ
-verdict_text (certified hs) = codes "certified" ++ hulls_text hs
-verdict_text (uncertified f) = codes "uncertified " ++ failure_text f
+-- the number of a line, then what its refusal tells
+abbrev pub refused_text : ℕ → Told → List ℕ
+refused_text n t = codes "refused " ++ (decimal n ++ (codes " " ++ (decimal t.number ++ (codes " " ++ decimal (printed_place t)))))
 
-abbrev pub outcome_text : Outcome → List ℕ
-outcome_text (judged v) = verdict_text v
-outcome_text (refused_at l k p) = codes "refused " ++ (decimal l ++ (codes " " ++ (decimal k ++ (codes " " ++ decimal p))))
+abbrev pub report_text : Report → List ℕ
+report_text (Certified c) = codes "certified" ++ hulls_text c.hulls
+report_text (Uncertified f) = codes "uncertified " ++ failure_text f
+report_text (Refused e) = refused_text e.line (input_refusal e.refusal)

@@ -1,10 +1,9 @@
 // From the bytes of an input to the report on it.
 ghost use Rattle.std.specs.Prelude.{◌≡◌, false, length, map, None, Err, IfOk};
 ghost use Rattle.travel.specs.Benches.{bench_gantry};
-ghost use Rattle.program.specs.Refusals.{max_blocks};
+ghost use Rattle.program.specs.Limits.{max_blocks};
 ghost use Rattle.certify.specs.declared.refusal.CertifyRefusal.TheVariants.{Store};
-ghost use Rattle.console.specs.Asked.{first_refusal, report_by, Answered};
-ghost use Rattle.console.specs.Report.{said};
+ghost use Rattle.console.specs.Asked.{first_refusal, ReportsAnswers, Answered};
 ghost use Rattle.console.specs.Readings.{reading_of};
 ghost use Rattle.console.specs.Verdicts.{OnBench, Reported, Promises};
 ghost use Rattle.console.specs.Law.{TheReport};
@@ -13,7 +12,7 @@ use crate::asked::note_calls;
 use crate::refusal::Refusal;
 use crate::report::{Rejection, Report};
 use calls::combine::Then;
-use calls::replay::replay;
+use calls::play::play_calls;
 use calls::single::{Allow, Certify, Line};
 use calls::tape::Tape;
 use certify::refusal::{Certificate, CertifyRefusal};
@@ -52,7 +51,7 @@ fn report_of(
     verdict: Result<Certificate, CertifyRefusal>,
 ) -> Report
     requires { range ≡ None → malformed ≡ false → line ≡ None → verdict ≡ Err Store → ⊥ }
-    ensures { said result ≡ report_by range malformed line verdict }
+    ensures { ReportsAnswers range malformed line verdict result }
 {
     if let Some((_, refusal)) = range {
         return Report::Refused(Refusal::Allow(refusal).into());
@@ -81,9 +80,9 @@ fn judge(asked: &mut Asked, malformed: bool) -> Report
     requires ranges { length asked.old.first.answers.now ≡ length asked.old.first.calls.now }
     requires lines { length asked.old.rest.first.answers.now ≡ length asked.old.rest.first.calls.now }
     requires store { length asked.old.rest.rest.store.now ≡ max_blocks }
-    ensures { Answered asked.old.first.calls.now malformed (map (λ line. line.text.now) asked.old.rest.first.calls.now) (said result) }
+    ensures { Answered asked.old.first.calls.now malformed (map (λ line. line.text.now) asked.old.rest.first.calls.now) result }
 {
-    let (_, (_, verdict)) = replay(bench_gantry(), asked);
+    let (_, (_, verdict)) = play_calls(bench_gantry(), asked);
     let range = first_refusal(asked.first.answers);
     let line = first_refusal(asked.rest.first.answers);
     report_of(range, malformed, line, verdict)
@@ -91,9 +90,9 @@ fn judge(asked: &mut Asked, malformed: bool) -> Report
 
 // The report on a whole input: the one that the rules give.
 pub fn report_on(alloc: Global, input: &[u8]) -> Result<Report, AllocError>
-    ensures law { IfOk result (λ r. TheReport input.now (said r)) }
-    ensures is { IfOk result (λ r. OnBench (λ gantry. Reported gantry (reading_of input.now) (said r))) }
-    ensures promised { IfOk result (λ r. OnBench (λ gantry. Promises gantry (reading_of input.now) (said r))) }
+    ensures law { IfOk result (λ r. TheReport input.now r) }
+    ensures is { IfOk result (λ r. OnBench (λ gantry. Reported gantry (reading_of input.now) r)) }
+    ensures promised { IfOk result (λ r. OnBench (λ gantry. Promises gantry (reading_of input.now) r)) }
 {
     if input.len() > MAX_INPUT {
         return Ok(Report::Refused(Refusal::Input.into()));

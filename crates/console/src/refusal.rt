@@ -1,8 +1,9 @@
 // Why an input is refused.
 ghost use Rattle.std.specs.Prelude.{◌≡◌};
-ghost use Rattle.console.specs.Report.{refusal_number, refusal_place};
+ghost use Rattle.console.specs.Report.{input_refusal, printed_place};
 ghost use Rattle.console.specs.declared.refusal.Refusal.TheVariants.{Allow, Line};
 
+use certify::refusal::CertifyRefusal;
 use program::refusal::LineRefusal;
 use session::refusal::AllowRefusal;
 
@@ -39,20 +40,20 @@ impl From<LineRefusal> for Refusal {
 impl Refusal {
     // Not a From: `u32::from` would not say which number.
     pub(crate) fn number(self) -> u32
-        ensures { result ≡ refusal_number self }
+        ensures { result ≡ (input_refusal self).number }
     {
         match self {
             Refusal::Input => 46,
             Refusal::RangeText => 13,
             Refusal::Allow(e) => e.number(),
             Refusal::Line(e) => e.number(),
-            Refusal::Open => 31,
+            Refusal::Open => CertifyRefusal::Open.number(),
         }
     }
 
     // The place in the line, or 0 where there is none: that is how it is printed.
     pub(crate) fn place(self) -> usize
-        ensures { result ≡ refusal_place self }
+        ensures { result ≡ printed_place (input_refusal self) }
     {
         match self {
             Refusal::Line(e) => e.place().unwrap_or(0),

@@ -1,6 +1,6 @@
 // The report on an input, and its text.
 ghost use Rattle.std.specs.Prelude.{◌≡◌, Some};
-ghost use Rattle.console.specs.Report.{said, hull_text, outcome_text};
+ghost use Rattle.console.specs.Report.{hull_text, report_text};
 
 use crate::failure::FailureText;
 use crate::refusal::Refusal;
@@ -48,7 +48,7 @@ impl fmt::Display for Hull {
 }
 
 impl fmt::Display for Report {
-    ghost output = { λ report. Some (outcome_text (said report)) };
+    ghost output = { λ report. Some (report_text report) };
 
     fn fmt<W: fmt::Write>(&self, f: &mut fmt::Formatter<W>) -> fmt::Result {
         match *self {

@@ -1,17 +1,32 @@
--- What a tape of entries comes to once it was replayed.
-use Rattle.std.proofs.Common.{◌≡◌, ℕ, min, List, [], ◌∷◌, ◌++◌, length, Ok, Err, Result, IfOk, refl, ap, ◌∙◌, subst, arith}
+-- What a tape of entries comes to once it was played.
+use Rattle.std.proofs.Common.{◌≡◌, ℕ, min, List, [], ◌∷◌, ◌++◌, length, Ok, Err, Result, IfOk, refl, sym, ap, ◌∙◌, subst, subst₂, arith}
 use Rattle.std.proofs.lemmas.List.{ext_get_or}
-use Rattle.calls.specs.Answers.{recorded}
-use Rattle.calls.specs.Law.{Lawfully}
+use Rattle.model.specs.Envelopes.{Envelope}
+use Rattle.session.specs.Memory.{Memory}
+use Rattle.session.specs.declared.progress.Progress.{Progress}
+use Rattle.session.specs.declared.progress.Progress.TheVariants.{WentOn, Commanded, Ended}
+use Rattle.calls.specs.Events.{by_step, recorded}
+use Rattle.calls.specs.Law.{Answer, Call, event, step, Lawful}
+use Rattle.calls.specs.Playing.{AllKept}
 use Rattle.calls.specs.Loans.{EachStays}
 use Rattle.desk.specs.declared.answer.Note.TheVariants.{Bad}
 use Rattle.desk.specs.declared.answer.Reply.{Reply}
 use Rattle.desk.specs.declared.answer.Reply.TheVariants.{Done}
-use Rattle.desk.specs.declared.entry.Answer.{Answer}
+use Rattle.desk.specs.declared.entry.Answer.{Answer as Answered}
 use Rattle.desk.specs.declared.entry.Entry.{Entry}
 use Rattle.desk.specs.declared.entry.Entry.TheVariants.{Call as ACall, Table as ATable, Note as ANote}
+use Rattle.desk.specs.Answers.{answer, reply_of}
 use Rattle.desk.specs.Scripts.{Table, Stays, events_of}
-use Rattle.desk.specs.Stretches.{asked, paired, events_in, region_of, sides_of, home_of, Finished}
+use Rattle.desk.specs.Stretches.{asked, paired, events_in, envelope_of, Finished}
+
+-- what a step tells is its answer
+told_progress : (p : Progress) → by_step (Ok p) ≡ answer (reply_of p)
+told_progress WentOn = refl
+told_progress (Commanded p) = refl
+told_progress Ended = refl
+
+pub step_kept : (travel : Envelope) (m : Memory) (c : Call) (p : Progress) (r : Reply) → c ≡ step → r ≡ reply_of p → AllKept travel m (event step (by_step (Ok p)) ∷ []) → AllKept travel m (event c (answer r) ∷ [])
+step_kept travel m c p r is e kept = subst₂ (λ (d : Call) (a : Answer). AllKept travel m (event d a ∷ [])) (sym is) (told_progress p ∙ ap answer (sym e)) kept
 
 -- each entry stays as it was
 stays_same : (c d : Entry) (a : Reply) → Stays c d a → d ≡ c
@@ -39,9 +54,9 @@ pub if_ok : {A E P Q : Type 0} (r : Result A E) → (P → Q) → IfOk r (λ _. 
 if_ok (Ok a) f p = f p
 if_ok (Err e) f p = tt
 
-module _ (t : Table) (cs ds : List Entry) (qs rs : List Reply) (old new : List Answer) (all : length ds ≡ length cs) (room : length qs ≡ length cs) (told : length rs ≡ length qs) where
+module _ (t : Table) (cs ds : List Entry) (qs rs : List Reply) (old new : List Answered) (all : length ds ≡ length cs) (room : length qs ≡ length cs) (told : length rs ≡ length qs) where
   pub finished : EachStays Stays (min (length cs) (length qs)) cs ds qs rs
-      → Lawfully (region_of t) (sides_of t) (home_of t) [] (recorded (λ (c d : Entry) (r : Reply). events_of c r) cs ds rs)
+      → Lawful (envelope_of t) [] (recorded (λ (c d : Entry) (r : Reply). events_of c r) cs ds rs)
       → new ≡ old ++ paired ds rs → Finished t cs old new
   finished stays law noted =
       let same = all_stay (min (length cs) (length qs)) cs ds qs rs all (omega (arith, room)) stays in
@@ -49,5 +64,5 @@ module _ (t : Table) (cs ds : List Entry) (qs rs : List Reply) (old new : List A
         added = paired cs rs;
         all = noted ∙ ap (λ es. old ++ paired es rs) same;
         entries = asked_paired cs rs (told ∙ room);
-        law = subst (Lawfully (region_of t) (sides_of t) (home_of t) []) (recorded_entries cs ds rs all (told ∙ room)) law;
+        law = subst (Lawful (envelope_of t) []) (recorded_entries cs ds rs all (told ∙ room)) law;
       }

@@ -1,12 +1,13 @@
 -- What a call is answered, as the law has it, and the text of what is said of a line that makes none.
 use Rattle.std.specs.Prelude.{ℕ, List, ◌++◌, Ok, Err, codes, decimal, Result}
-use Rattle.certify.specs.Refusals.{certify_number}
-use Rattle.program.specs.Entry.{line_number, line_place}
-use Rattle.session.specs.Answers.{allow_number, dry_number, start_number, start_parameter, step_number}
+use Rattle.model.specs.Refusals.{Detail, nothing, place, parameter, failure, Told}
+use Rattle.certify.specs.Refusals.{certify_refusal}
+use Rattle.program.specs.Numbers.{line_refusal}
+use Rattle.session.specs.Refusals.{allow_refusal, start_refusal, step_refusal, dry_refusal}
 use Rattle.session.specs.declared.progress.Progress.{Progress}
 use Rattle.session.specs.declared.progress.Progress.TheVariants.{WentOn as Went, Commanded as Position, Ended as End}
 use Rattle.travel.specs.Refusals.{travel_number}
-use Rattle.calls.specs.Said.{Detail, nothing, place, parameter, failure, placed, numbered, verdict_detail, Said, done, certificate, came, went_on, commanded, ended, refused}
+use Rattle.calls.specs.Law.{Answer, done, certified, went_on, commanded, ended, comes_to, refused}
 use Rattle.desk.specs.declared.answer.Note.{Note}
 use Rattle.desk.specs.declared.answer.Note.TheVariants.{NoTable, Bad}
 use Rattle.desk.specs.declared.answer.Refusal.{Refusal}
@@ -16,21 +17,14 @@ use Rattle.desk.specs.declared.answer.Reply.TheVariants.{Done, Certified, WentOn
 use Rattle.desk.specs.declared.text.Detail.{Detail as TextDetail}
 use Rattle.desk.specs.declared.text.Detail.TheVariants.{Nothing, Place, Parameter, Failure}
 
-abbrev pub refusal_number : Refusal → ℕ
-refusal_number (OfLine e) = line_number e
-refusal_number (OfAllow e) = allow_number e
-refusal_number (OfCertify e) = certify_number e
-refusal_number (OfStart e) = start_number e
-refusal_number (OfStep e) = step_number e
-refusal_number (OfDry e) = dry_number e
-
-abbrev pub refusal_detail : Refusal → Detail
-refusal_detail (OfLine e) = placed (line_place e)
-refusal_detail (OfAllow e) = nothing
-refusal_detail (OfCertify e) = verdict_detail e
-refusal_detail (OfStart e) = numbered (start_parameter e)
-refusal_detail (OfStep e) = nothing
-refusal_detail (OfDry e) = nothing
+-- what the refusal of a call tells
+abbrev pub call_refusal : Refusal → Told
+call_refusal (OfLine why) = line_refusal why
+call_refusal (OfAllow why) = allow_refusal why
+call_refusal (OfCertify why) = certify_refusal why
+call_refusal (OfStart why) = start_refusal why
+call_refusal (OfStep why) = step_refusal why
+call_refusal (OfDry why) = dry_refusal why
 
 -- the code's detail, as the law's
 abbrev pub detail : TextDetail → Detail
@@ -39,21 +33,19 @@ detail (Place p) = place p
 detail (Parameter n) = parameter n
 detail (Failure f) = failure f
 
-abbrev pub why : Refusal → Said
-why e = refused (refusal_number e) (refusal_detail e)
+-- the code's reply, as the law's answer
+abbrev pub answer : Reply → Answer
+answer Done = done
+answer (Certified c) = certified c.hulls
+answer WentOn = went_on
+answer (Commanded p) = commanded p
+answer Ended = ended
+answer (Came o) = comes_to o
+answer (Refused why) = refused (call_refusal why)
 
-abbrev pub said : Reply → Said
-said Done = done
-said (Certified c) = certificate c.hulls
-said WentOn = went_on
-said (Commanded p) = commanded p
-said Ended = ended
-said (Came o) = came o
-said (Refused e) = why e
-
-abbrev pub said_or_why : Result Reply Refusal → Said
-said_or_why (Ok a) = said a
-said_or_why (Err e) = why e
+abbrev pub by_reply : Result Reply Refusal → Answer
+by_reply (Ok a) = answer a
+by_reply (Err why) = refused (call_refusal why)
 
 abbrev pub reply_of : Progress → Reply
 reply_of Went = WentOn

@@ -1,5 +1,5 @@
 -- What a line of a script asks for: a call of the session that stands, or a session on another table.
-use Rattle.std.specs.Prelude.{◌≡◌, ℕ, min, true, List, [], ◌∷◌, ℤ, pos, negsuc, Some, None, Ok, Err, codes, Option, Result}
+use Rattle.std.specs.Prelude.{◌≡◌, ℕ, min, List, [], ◌∷◌, ℤ, pos, negsuc, Some, None, Ok, Err, codes, Option, Result}
 use Rattle.model.specs.declared.axes.Ends.{Ends}
 use Rattle.model.specs.Environments.{registers}
 use Rattle.command.specs.Commands.{Meant, bench_gantry as ask_gantry, bench_beam as ask_beam, gantry, beam, meant_call}
@@ -11,7 +11,7 @@ use Rattle.intervals.specs.Intervals.{intervals}
 use Rattle.congruences.specs.Numbers.{congruences}
 use Rattle.pointwise.specs.States.{pointwise}
 use Rattle.domain.specs.Pairs.{pair}
-use Rattle.program.specs.Refusals.{max_blocks}
+use Rattle.program.specs.Limits.{max_blocks}
 use Rattle.travel.specs.declared.beam.Beam.{Beam}
 use Rattle.travel.specs.declared.gantry.Gantry.{Gantry}
 use Rattle.either.specs.declared.Either.{Either}
@@ -20,24 +20,24 @@ use Rattle.travel.specs.declared.refusal.TravelRefusal.{TravelRefusal}
 use Rattle.travel.specs.Benches.{bench_gantry, bench_beam, bench_gap}
 use Rattle.travel.specs.Beams.{BeamMade}
 use Rattle.travel.specs.Gantries.{GantryMade}
-use Rattle.calls.specs.Answers.{domain, event}
-use Rattle.calls.specs.Law.{AnyDomain, Event, Call, line as Line, allow as Allow, wipe as Wipe, certify as Certify, start as Start, step as Step, dry as Dry}
+use Rattle.calls.specs.Events.{domain}
+use Rattle.calls.specs.Law.{AnyDomain, Event, event, Call, line as Line, allow as Allow, wipe as Wipe, certify as Certify, start as Start, step as Step, dry as Dry}
 use Rattle.desk.specs.declared.answer.Note.TheVariants.{Bad, NoTable}
 use Rattle.desk.specs.declared.answer.Reply.{Reply}
 use Rattle.desk.specs.declared.answer.Reply.TheVariants.{Done}
 use Rattle.desk.specs.declared.entry.Entry.{Entry}
 use Rattle.desk.specs.declared.entry.Entry.TheVariants.{Call as ACall, Note as ANote, Table as ATable}
-use Rattle.desk.specs.Answers.{said, note_text}
-use Rattle.desk.specs.Texts.{said_text}
+use Rattle.desk.specs.Answers.{answer, note_text}
+use Rattle.desk.specs.Texts.{answer_text}
 
 -- ---- calls
 -- the domain of a name
 abbrev pub domain_named : DomainName → AnyDomain
-domain_named Intervals = domain (pointwise intervals registers) true
-domain_named Congruences = domain (pointwise congruences registers) true
-domain_named IntervalsAndCongruences = domain (pair (pointwise intervals registers) (pointwise congruences registers) registers) true
-domain_named CongruencesAndIntervals = domain (pair (pointwise congruences registers) (pointwise intervals registers) registers) true
-domain_named TwiceIntervals = domain (pair (pointwise intervals registers) (pointwise intervals registers) registers) true
+domain_named Intervals = domain (pointwise intervals registers)
+domain_named Congruences = domain (pointwise congruences registers)
+domain_named IntervalsAndCongruences = domain (pair (pointwise intervals registers) (pointwise congruences registers) registers)
+domain_named CongruencesAndIntervals = domain (pair (pointwise congruences registers) (pointwise intervals registers) registers)
+domain_named TwiceIntervals = domain (pair (pointwise intervals registers) (pointwise intervals registers) registers)
 
 -- a parameter below 1 is none
 abbrev pub natural : ℤ → ℕ
@@ -104,7 +104,7 @@ table_in (ANote n) = None
 
 -- an entry that asks for a call makes that one, others make none
 abbrev pub events_of : Entry → Reply → List Event
-events_of (ACall c) a = event (call_of c) (said a) ∷ []
+events_of (ACall c) a = event (call_of c) (answer a) ∷ []
 events_of (ATable t) a = []
 events_of (ANote n) a = []
 
@@ -115,7 +115,7 @@ Stays (ATable t) d a = (d ≡ ATable t) × (a ≡ Done)
 Stays (ANote n) d a = (d ≡ ANote n) × (a ≡ Done)
 
 -- what is printed for an entry: of a call its reply, of a table that it is there, and a note itself
-abbrev pub answer_text : Entry → Reply → List ℕ
-answer_text (ACall c) a = said_text (said a)
-answer_text (ATable t) a = codes "ok"
-answer_text (ANote n) a = note_text n
+abbrev pub entry_text : Entry → Reply → List ℕ
+entry_text (ACall c) a = answer_text (answer a)
+entry_text (ATable t) a = codes "ok"
+entry_text (ANote n) a = note_text n

@@ -1,14 +1,13 @@
 -- A whole script: its entries, cut at its tables, and what each is answered.
 use Rattle.std.specs.Prelude.{◌≡◌, ℕ, ◌+◌, List, [], ◌∷◌, ◌++◌, map, Some, None, Ok}
-use Rattle.model.specs.Axes.{Position}
-use Rattle.model.specs.declared.side.Side.{Side}
-use Rattle.travel.specs.Beams.{beam_sides, BeamRegion}
+use Rattle.model.specs.Envelopes.{Envelope}
+use Rattle.travel.specs.Beams.{beam_envelope}
 use Rattle.travel.specs.Benches.{bench_gantry}
 use Rattle.travel.specs.Eithers.{either}
-use Rattle.travel.specs.Gantries.{gantry_sides, GantryRegion}
+use Rattle.travel.specs.Gantries.{gantry_envelope}
 use Rattle.command.specs.Commands.{command_of}
 use Rattle.console.specs.Lines.{lines_of}
-use Rattle.calls.specs.Law.{Event, Lawfully}
+use Rattle.calls.specs.Law.{Event, Lawful}
 use Rattle.desk.specs.declared.entry.Answer.{Answer}
 use Rattle.desk.specs.declared.entry.Entry.{Entry}
 use Rattle.desk.specs.declared.answer.Reply.{Reply}
@@ -42,25 +41,19 @@ paired [] rs = []
 paired (e ∷ es) [] = []
 paired (e ∷ es) (r ∷ rs) = record { entry = e; reply = r } ∷ paired es rs
 
-abbrev pub region_of : Table → Position → Type 0
-region_of = either GantryRegion BeamRegion
-
-abbrev pub sides_of : Table → List Side
-sides_of = either gantry_sides beam_sides
-
-abbrev pub home_of : Table → Position
-home_of = either (λ g. g.ends.home) (λ b. b.base.ends.home)
+abbrev pub envelope_of : Table → Envelope
+envelope_of = either gantry_envelope beam_envelope
 
 -- the answers to entries on one table: their calls are made on a session just made, and the law holds of them
 abbrev pub Stretch : Table → List Answer → Type 0
-Stretch t qs = NoTable (asked qs) × Lawfully (region_of t) (sides_of t) (home_of t) [] (events_in qs)
+Stretch t qs = NoTable (asked qs) × Lawful (envelope_of t) [] (events_in qs)
 
 -- the entries of a stretch are answered on the table, and their answers stand behind those that were there
 pub record Finished (t : Table) (es : List Entry) (old new : List Answer) : Type 0 where
   pub added : List Answer
   pub all : new ≡ old ++ added
   pub entries : asked added ≡ es
-  pub law : Lawfully (region_of t) (sides_of t) (home_of t) [] (events_in added)
+  pub law : Lawful (envelope_of t) [] (events_in added)
 
 -- ---- a script
 -- a stretch on the table that stands lasts up to the next entry that sets up a table; what follows is answered on that one

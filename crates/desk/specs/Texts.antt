@@ -6,7 +6,8 @@ use Rattle.model.specs.declared.ending.Ending.TheVariants.{Ended, Running, Stopp
 use Rattle.model.specs.declared.range.Range.{Range}
 use Rattle.model.specs.Axes.{Position}
 use Rattle.console.specs.Failures.{failure_text}
-use Rattle.calls.specs.Said.{Detail, nothing, place, parameter, failure, Said, done, certificate, came, went_on, commanded, ended, refused}
+use Rattle.model.specs.Refusals.{Detail, nothing, place, parameter, failure, Told}
+use Rattle.calls.specs.Law.{Answer, done, certified, went_on, commanded, ended, comes_to, refused}
 
 abbrev pub ending_text : Ending → List ℕ
 ending_text Ended = codes "ended"
@@ -35,11 +36,15 @@ abbrev pub hulls_text : List (Option Range) → List ℕ
 hulls_text hs = axis_text hs 0 ++ (codes " " ++ (axis_text hs 1 ++ (codes " " ++ (axis_text hs 2 ++ (codes " " ++ axis_text hs 3)))))
 
 -- ---- the text of an answer
-abbrev pub said_text : Said → List ℕ
-said_text done = codes "ok"
-said_text (certificate hs) = codes "certified " ++ hulls_text hs
-said_text (came o) = ending_text o
-said_text went_on = codes "went on"
-said_text (commanded p) = codes "position " ++ position_text p
-said_text ended = codes "ended"
-said_text (refused k d) = codes "refused " ++ (decimal k ++ detail_text d)
+-- the number of a refusal, and what it carries
+abbrev pub refused_text : Told → List ℕ
+refused_text t = codes "refused " ++ (decimal t.number ++ detail_text t.detail)
+
+abbrev pub answer_text : Answer → List ℕ
+answer_text done = codes "ok"
+answer_text (certified hs) = codes "certified " ++ hulls_text hs
+answer_text (comes_to o) = ending_text o
+answer_text went_on = codes "went on"
+answer_text (commanded p) = codes "position " ++ position_text p
+answer_text ended = codes "ended"
+answer_text (refused t) = refused_text t

@@ -1,8 +1,8 @@
 // What a call is answered, and what is said of a line that makes none, with the texts.
 ghost use Rattle.std.specs.Prelude.{◌≡◌, Some};
 ghost use Rattle.desk.specs.declared.answer.Refusal.TheVariants.{Line, Allow, Certify, Start, Step, Dry};
-ghost use Rattle.desk.specs.Answers.{refusal_number, detail, refusal_detail, reply_of, why, said, note_text};
-ghost use Rattle.desk.specs.Texts.{said_text};
+ghost use Rattle.desk.specs.Answers.{answer, call_refusal, detail, note_text, reply_of};
+ghost use Rattle.desk.specs.Texts.{answer_text, refused_text};
 
 use crate::text::{Detail, HullText};
 use certify::refusal::{Certificate, CertifyRefusal};
@@ -77,7 +77,7 @@ impl From<DryRefusal> for Refusal {
 impl Refusal {
     // Not a From: `u32::from` would not say which number.
     fn number(self) -> u32
-        ensures { result ≡ refusal_number self }
+        ensures { result ≡ (call_refusal self).number }
     {
         match self {
             Refusal::Line(e) => e.number(),
@@ -90,7 +90,7 @@ impl Refusal {
     }
 
     fn detail(self) -> Detail
-        ensures { detail result ≡ refusal_detail self }
+        ensures { detail result ≡ (call_refusal self).detail }
     {
         match self {
             Refusal::Line(e) => e.place().map_or(Detail::Nothing, Detail::Place),
@@ -102,7 +102,7 @@ impl Refusal {
 }
 
 impl fmt::Display for Refusal {
-    ghost output = { λ e. Some (said_text (why e)) };
+    ghost output = { λ e. Some (refused_text (call_refusal e)) };
 
     fn fmt<W: fmt::Write>(&self, f: &mut fmt::Formatter<W>) -> fmt::Result {
         let number = self.number();
@@ -136,7 +136,7 @@ impl From<Progress> for Reply {
 }
 
 impl fmt::Display for Reply {
-    ghost output = { λ a. Some (said_text (said a)) };
+    ghost output = { λ a. Some (answer_text (answer a)) };
 
     fn fmt<W: fmt::Write>(&self, f: &mut fmt::Formatter<W>) -> fmt::Result {
         match *self {

@@ -1,13 +1,12 @@
 // The entries of a script, as a list of calls on the session that stands.
 ghost use Rattle.std.specs.Prelude.{◌≡◌, [], ◌∷◌, length, min, Some};
-ghost use Rattle.program.specs.Refusals.{max_blocks};
+ghost use Rattle.program.specs.Limits.{max_blocks};
 ghost use Rattle.session.specs.Memory.{memory};
-ghost use Rattle.calls.specs.Answers.{domain, event};
-ghost use Rattle.calls.specs.Law.{certify};
-ghost use Rattle.calls.specs.Said.{by_verdict};
+ghost use Rattle.calls.specs.Events.{domain};
+ghost use Rattle.calls.specs.Law.{event, certify, by_verdict};
 ghost use Rattle.calls.specs.Playing.{AllKept, afters};
-ghost use Rattle.desk.specs.Answers.{said_or_why};
-ghost use Rattle.desk.specs.Scripts.{domain_named, call_of, events_of, table_in, answer_text, Stays};
+ghost use Rattle.desk.specs.Answers.{by_reply};
+ghost use Rattle.desk.specs.Scripts.{domain_named, call_of, events_of, table_in, entry_text, Stays};
 
 use crate::answer::{Note, Refusal, Reply};
 use crate::desk::Table;
@@ -58,8 +57,8 @@ fn certify_with<D: Domain, T: Travel>(
     store: &mut [D],
     states: u32,
 ) -> Result<Certificate, CertifyRefusal>
-    ensures kept { AllKept (T.region session.old.travel) (T.sides session.old.travel) (T.origin session.old.travel) (memory session.old) (event (certify (domain D.lattice D.exact) (min states (length store.old))) (by_verdict result) ∷ []) }
-    ensures left { memory session.new ≡ afters (T.origin session.old.travel) (memory session.old) (event (certify (domain D.lattice D.exact) (min states (length store.old))) (by_verdict result) ∷ []) }
+    ensures kept { AllKept (T.envelope session.old.travel) (memory session.old) (event (certify (domain D.lattice) (min states (length store.old))) (by_verdict result) ∷ []) }
+    ensures left { memory session.new ≡ afters (T.envelope session.old.travel).home (memory session.old) (event (certify (domain D.lattice) (min states (length store.old))) (by_verdict result) ∷ []) }
     ensures travel { session.new.travel ≡ session.old.travel }
 {
     let lent = store.len().min(states as usize);
@@ -75,8 +74,8 @@ fn certify_in<T: Travel>(
     domain: DomainName,
     states: u32,
 ) -> Result<Certificate, CertifyRefusal>
-    ensures kept { AllKept (T.region session.old.travel) (T.sides session.old.travel) (T.origin session.old.travel) (memory session.old) (event (certify (domain_named domain) (min states max_blocks)) (by_verdict result) ∷ []) }
-    ensures left { memory session.new ≡ afters (T.origin session.old.travel) (memory session.old) (event (certify (domain_named domain) (min states max_blocks)) (by_verdict result) ∷ []) }
+    ensures kept { AllKept (T.envelope session.old.travel) (memory session.old) (event (certify (domain_named domain) (min states max_blocks)) (by_verdict result) ∷ []) }
+    ensures left { memory session.new ≡ afters (T.envelope session.old.travel).home (memory session.old) (event (certify (domain_named domain) (min states max_blocks)) (by_verdict result) ∷ []) }
     ensures travel { session.new.travel ≡ session.old.travel }
 {
     match domain {
@@ -99,8 +98,8 @@ fn certify_in<T: Travel>(
 }
 
 fn play_call<T: Travel>(session: &mut Session<T>, call: Call) -> Result<Reply, Refusal>
-    ensures kept { AllKept (T.region session.old.travel) (T.sides session.old.travel) (T.origin session.old.travel) (memory session.old) (event (call_of call.entry) (said_or_why result) ∷ []) }
-    ensures left { memory session.new ≡ afters (T.origin session.old.travel) (memory session.old) (event (call_of call.entry) (said_or_why result) ∷ []) }
+    ensures kept { AllKept (T.envelope session.old.travel) (memory session.old) (event (call_of call.entry) (by_reply result) ∷ []) }
+    ensures left { memory session.new ≡ afters (T.envelope session.old.travel).home (memory session.old) (event (call_of call.entry) (by_reply result) ∷ []) }
     ensures travel { session.new.travel ≡ session.old.travel }
 {
     match call {
@@ -145,7 +144,7 @@ pub struct Answer<'a> {
 }
 
 impl<'a> fmt::Display for Answer<'a> {
-    ghost output = { λ answer. Some (answer_text answer.entry answer.reply) };
+    ghost output = { λ answer. Some (entry_text answer.entry answer.reply) };
 
     fn fmt<W: fmt::Write>(&self, f: &mut fmt::Formatter<W>) -> fmt::Result {
         match self.entry {

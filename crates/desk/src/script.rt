@@ -5,7 +5,7 @@ ghost use Rattle.desk.specs.Stretches.{Answered, Finished, paired};
 use crate::answer::Reply;
 use crate::desk::{Table, first_table, read_entry};
 use crate::entry::{Answer, Entry};
-use calls::replay::replay;
+use calls::play::play_calls;
 use calls::tape::Tape;
 use console::lines::Lines;
 use std::alloc::{AllocError, Global};
@@ -35,7 +35,7 @@ fn note_stretch<'a>(
     requires { length stretch.old.answers.now ≡ length stretch.old.calls.now }
     ensures { IfOk result (λ _. Finished table stretch.old.calls.now answers.old.items answers.new.items) }
 {
-    replay(table, stretch);
+    play_calls(table, stretch);
     note_answers(answers, stretch)
 }
 

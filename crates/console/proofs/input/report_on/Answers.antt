@@ -1,7 +1,8 @@
 -- The report by the rules is the only one.
 use Rattle.std.proofs.Common.{map, sym, ap, ◌∙◌, subst, arith}
 use Rattle.console.specs.Law.{TheReport}
-use Rattle.console.specs.Report.{refused_at, refusal_number, refusal_place}
+use Rattle.console.specs.declared.refusal.Refusal.TheVariants.{Input}
+use Rattle.console.specs.declared.report.Report.TheVariants.{Refused}
 use Rattle.console.proofs.Readings.{long_reading}
 use Rattle.console.proofs.Reports.{refused_report, law_answered, is_answered, promised_answered}
 use Rattle.console.proofs.input.report_on.Goals as goal
@@ -9,7 +10,7 @@ use Rattle.console.proofs.input.report_on.Goals as goal
 pub returns-then-input-gt-MAX_INPUT-clause-law : goal.returns-then-input-gt-MAX_INPUT-clause-law
 returns-then-input-gt-MAX_INPUT-clause-law c =
     let bs = c.args.input.now in
-    subst (λ r. TheReport bs (refused_at r.line (refusal_number r.refusal) (refusal_place r.refusal))) (sym c.into.ensures) (refused_report bs 0 46 0 (long_reading bs (omega arith)))
+    subst (λ r. TheReport bs (Refused r)) (sym c.into.ensures) (refused_report bs 0 Input (long_reading bs (omega arith)))
 
 pub returns-clause-law : goal.returns-clause-law
 returns-clause-law c =
