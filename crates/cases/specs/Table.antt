@@ -1,37 +1,81 @@
--- What some texts are answered, each by the law of the reader, and what a run over a line comes to: this and nothing else.
-use Rattle.std.specs.Prelude.{ℕ, suc, List, [], ◌∷◌, pos, Some, None, codes}
-use Rattle.model.specs.declared.expression.Op.TheVariants.{Add, Mul}
-use Rattle.model.specs.declared.expression.Parameter.TheVariants.{P1, P2}
-use Rattle.model.specs.declared.expression.Rel.TheVariants.{Lt}
-use Rattle.model.specs.declared.expression.Term.TheVariants.{Number, Parameter}
-use Rattle.model.specs.declared.ending.Cause.TheVariants.{Arithmetic}
-use Rattle.model.specs.declared.ending.Ending.TheVariants.{Stopped}
-use Rattle.model.specs.declared.side.Side.{Side}
-use Rattle.model.specs.Environments.{Env}
-use Rattle.model.specs.Whole.{TheEnding}
+-- Worked examples: what the rules for intervals, congruences and texts come to where it can be followed by hand.
+use Rattle.std.specs.Prelude.{◌≡◌, ℕ, false, List, pos, Some, Ok, codes, refl}
+use Rattle.model.specs.declared.expression.Op.TheVariants.{Add}
+use Rattle.model.specs.declared.expression.Parameter.TheVariants.{P1}
+use Rattle.model.specs.declared.expression.Rel.TheVariants.{Eq, Lt}
+use Rattle.model.specs.declared.expression.Term.TheVariants.{Number}
+use Rattle.model.specs.declared.expression.Value.{Value}
 use Rattle.model.specs.declared.line.Line.{Line}
-use Rattle.model.specs.declared.line.Line.TheVariants.{Plain, Setting, Move, While}
-use Rattle.model.specs.declared.line.Motion.TheVariants.{Feed}
-use Rattle.grammar.specs.Grammar.{bare, applied}
-use Rattle.grammar.specs.Answer.{read, refused}
+use Rattle.model.specs.declared.line.Line.TheVariants.{Setting}
+use Rattle.model.specs.Environments.{Env}
+use Rattle.model.specs.Values.{fine}
+use Rattle.intervals.specs.declared.interval.Interval.{Interval}
+use Rattle.intervals.specs.Made.{between}
+use Rattle.intervals.specs.Intervals.{intervals}
+use Rattle.congruences.specs.declared.congruence.Congruence.{Congruence}
+use Rattle.congruences.specs.Numbers.{congruences}
+use Rattle.grammar.specs.Grammar.{applied}
+use Rattle.grammar.specs.declared.refusal.Cause.{Cause}
+use Rattle.grammar.specs.Causes.{number_of, refused}
 use Rattle.grammar.specs.Law.{TheAnswer}
 
-abbrev pub sum_line : Line
-sum_line = Setting P1 (applied Add (Number (pos 10000000)) (Number (pos 1)))
+-- from 0 to a number
+abbrev pub to_4 : Interval
+to_4 = between (pos 0) (pos 4) refl
+
+abbrev pub to_5 : Interval
+to_5 = between (pos 0) (pos 5) refl
+
+abbrev pub to_9 : Interval
+to_9 = between (pos 0) (pos 9) refl
+
+abbrev pub to_ten_million : Interval
+to_ten_million = between (pos 0) (pos 10000000) refl
+
+abbrev pub from_1_to_5 : Interval
+from_1_to_5 = between (pos 1) (pos 5) refl
+
+-- a residue by its modulus
+abbrev pub four_by_6 : Congruence
+four_by_6 = record { modulus = 6; residue = pos 4; ok = refl }
+
+abbrev pub one_by_4 : Congruence
+one_by_4 = record { modulus = 4; residue = pos 1; ok = refl }
+
+abbrev pub three_by_6 : Congruence
+three_by_6 = record { modulus = 6; residue = pos 3; ok = refl }
+
+abbrev pub nine_by_12 : Congruence
+nine_by_12 = record { modulus = 12; residue = pos 9; ok = refl }
+
+-- the sum that [10000000+1] writes
+abbrev pub sum : Value
+sum = applied Add (Number (pos 10000000)) (Number (pos 1))
+
+-- the text is this line, and nothing else
+abbrev pub ReadAs : List ℕ → Line → Type 0
+ReadAs s l = TheAnswer s (Ok l)
+
+-- the text is refused for the cause with the number k, at the place p, and nothing else
+abbrev pub RefusedWith : List ℕ → ℕ → ℕ → Type 0
+RefusedWith s k p = (c : Cause) × (number_of c ≡ k) × TheAnswer s (refused c p)
 
 pub record Table : Type 0 where
-  pub blank : TheAnswer (codes "  ") (read Plain)
-  -- a sum may lie beyond the greatest length where it is written, a number may not
-  pub sum : TheAnswer (codes "#1=[10000000+1]") (read sum_line)
-  -- it faults where it is run, on every travel and whatever the registers hold
-  pub fault : (sides : List Side) (n : ℕ) (e : Env) → TheEnding (sum_line ∷ []) sides (suc n) 0 e (Stopped (record { line = 1; cause = Arithmetic }))
-  pub beyond : TheAnswer (codes "#1=10000001") (refused 14 3)
-  pub move : TheAnswer (codes "g1 x[#1*500] Y#2") (read (Move Feed (Some (applied Mul (Parameter P1) (Number (pos 500)))) (Some (bare (Parameter P2))) None None))
-  pub while : TheAnswer (codes "O10 WHILE [#1 LT 5]") (read (While 10 (record { rel = Lt; left = Parameter P1; right = Number (pos 5) })))
-  -- an axis that is named twice, at its second place
-  pub twice : TheAnswer (codes "G1X5X6") (refused 15 4)
-  pub twice_first : TheAnswer (codes "G1X1X99999999") (refused 15 4)
-  pub limit_first : TheAnswer (codes "G1X99999999X1") (refused 14 3)
-  -- letters that stand together are one token
-  pub run_on : TheAnswer (codes "G1XY5") (refused 13 2)
-  pub early_end : TheAnswer (codes "G1 X ") (refused 13 5)
+  -- a number of 0..9 below one of 0..5 lies in 0..4, and the other in 1..5
+  pub less : intervals.kept Lt to_9 to_5 ≡ Some (record { left = to_4; right = from_1_to_5 })
+  -- 1..5 comes to 0..4: the lower end stays, the upper one rose and goes as far as it can
+  pub widened : intervals.widen to_4 from_1_to_5 ≡ to_ten_million
+  -- a sum may be written whatever it comes to
+  pub sum_read : ReadAs (codes "#1=[10000000+1]") (Setting P1 sum)
+  -- this one comes to more than any register may have, so it faults, whatever the registers have
+  pub sum_faults : (e : Env) → fine e sum ≡ false
+  -- the same number may not be written itself: its digits begin at place 3
+  pub beyond : RefusedWith (codes "#1=10000001") 14 3
+  -- the numbers 4 and 10, joined
+  pub joined : congruences.hull (congruences.single (pos 4)) (congruences.single (pos 10)) ≡ four_by_6
+  -- a number that is 1 modulo 4 and equals one that is 3 modulo 6: on both sides 9 modulo 12 is left
+  pub equal : congruences.kept Eq one_by_4 three_by_6 ≡ Some (record { left = nine_by_12; right = nine_by_12 })
+  -- the least and the greatest such number from 10 to 40
+  pub found : congruences.range nine_by_12 (record { lo = pos 10; hi = pos 40 }) ≡ record { lo = pos 21; hi = pos 33 }
+  -- X is named again, at place 4
+  pub twice : RefusedWith (codes "G1X5X6") 15 4

@@ -48,13 +48,27 @@ fn where_the_program_begins(rt: HostRuntime) -> Result<(), Fail> {
     check_report(&rt, b"?1 1 2\r\n", "refused 0 13 0")
 }
 
+// Moves to points 500 apart, as long as the condition on their number holds.
+fn check_rows(rt: &(impl Abort + AllocGlobal), condition: &str, text: &str) -> Result<(), Fail> {
+    let input = format!(in rt.alloc();
+        "?2 100 200\n#1=0\nO10 WHILE [{condition}]\nG1 X[#1*500] Y#2\n#1=[#1+1]\nO10 ENDWHILE\n"
+    )?;
+    check_report(rt, input.as_str().as_bytes(), text)
+}
+
 #[test]
 fn verdicts(rt: HostRuntime) -> Result<(), Fail> {
-    check_report(
+    check_rows(
         &rt,
-        b"?2 100 200\n#1=0\nO10 WHILE [#1 LT 5]\nG1 X[#1*500] Y#2\n#1=[#1+1]\nO10 ENDWHILE\n",
+        "#1 LT 5",
         "certified\nX 0 2000\nY 100 200\nZ 0 0\nU 0 0",
     )?;
+    check_rows(
+        &rt,
+        "#1 LE 5000",
+        "certified\nX 0 2500000\nY 100 200\nZ 0 0\nU 0 0",
+    )?;
+    check_rows(&rt, "#1 LE 5001", "uncertified 3 travel 0")?;
     check_report(
         &rt,
         b"#1=0\nO10 WHILE [#1 LE 5001]\nG1 X[#1*500]\n#1=[#1+1]\nO10 ENDWHILE\n",

@@ -93,6 +93,21 @@ fn stop_on_the_last_step(rt: HostRuntime) -> Result<(), Fail> {
     )
 }
 
+// A sum of two numbers stops a run whatever the registers have, on each table.
+#[test]
+fn a_sum_beyond_the_limit(rt: HostRuntime) -> Result<(), Fail> {
+    let sum: &[u8] = b"line #1=[10000000+1]";
+    let stopped = "stopped 1 arithmetic";
+    check_last(&rt, &[sum, b"dry 0 0 0 0 0 0 0"], "running")?;
+    check_last(&rt, &[sum, b"dry 0 0 0 0 0 0 1"], stopped)?;
+    check_last(
+        &rt,
+        &[sum, b"dry -10000000 0 0 0 0 10000000 100000"],
+        stopped,
+    )?;
+    check_last(&rt, &[b"benchbeam", sum, b"dry 0 0 0 0 0 0 1"], stopped)
+}
+
 // Nothing of a line takes effect where one of its values faults.
 #[test]
 fn faults_come_first(rt: HostRuntime) -> Result<(), Fail> {

@@ -1,4 +1,6 @@
 // How single texts are read: every reading of the rules of lines that could be taken another way.
+use model::expression::{Condition, Op, Parameter, Rel, Term, Value};
+use model::line::{Line, Motion};
 use reader::read;
 use std::test::*;
 
@@ -19,6 +21,43 @@ fn accepted(rt: HostRuntime) -> Result<(), Fail> {
     assert_eq!(rt; seen(b"g1u[+1-#6]z-0x00000005y#1"), (0, 0));
     assert_eq!(rt; seen(b"o9999endwhile"), (0, 0));
     assert_eq!(rt; seen(b"O1if[#1ge-5]"), (0, 0));
+    Ok(())
+}
+
+// A feed of X to #1 times 500, and of Y to #2.
+fn is_feed(line: Line) -> bool {
+    matches!(
+        line,
+        Line::Move {
+            motion: Motion::Feed,
+            x: Some(Value::Joined(Op::Mul, Term::Parameter(Parameter::P1), Term::Number(500))),
+            y: Some(Value::Term(Term::Parameter(Parameter::P2))),
+            z: None,
+            u: None,
+        }
+    )
+}
+
+// Block 10, a loop while #1 is below 5.
+fn is_loop(line: Line) -> bool {
+    matches!(
+        line,
+        Line::While {
+            label: 10,
+            condition: Condition {
+                rel: Rel::Lt,
+                left: Term::Parameter(Parameter::P1),
+                right: Term::Number(5),
+            },
+        }
+    )
+}
+
+#[test]
+fn stored_lines(rt: HostRuntime) -> Result<(), Fail> {
+    assert!(rt; matches!(read(b"  "), Ok(Line::Plain)));
+    assert!(rt; matches!(read(b"g1 x[#1*500] Y#2"), Ok(line) if is_feed(line)));
+    assert!(rt; matches!(read(b"O10 WHILE [#1 LT 5]"), Ok(line) if is_loop(line)));
     Ok(())
 }
 

@@ -1,43 +1,45 @@
-use Rattle.std.proofs.Common.{◌≡◌, ℕ, suc, List, [], ◌∷◌, refl, subst, arith}
-use Rattle.model.specs.declared.ending.Cause.TheVariants.{Arithmetic}
-use Rattle.model.specs.declared.ending.Ending.TheVariants.{Stopped}
-use Rattle.model.specs.declared.side.Side.{Side}
-use Rattle.model.specs.Environments.{Env}
-use Rattle.model.specs.Programs.{Closed}
-use Rattle.model.specs.Runs.{stops}
-use Rattle.model.specs.Whole.{Dry, faulted, here}
-use Rattle.model.proofs.Dried.{one_ending}
-use Rattle.cases.specs.Table.{Table, sum_line}
-use Rattle.cases.proofs.Sets.{sets}
-use Rattle.grammar.specs.Answer.{Answer, answer}
+use Rattle.std.proofs.Common.{◌≡◌, ℕ, List, Result, pos, refl, ap, ap₂, ◌∙◌, subst}
+use Rattle.number_sets.specs.Pairs.{both}
+use Rattle.intervals.specs.Makes.{made_some}
+use Rattle.intervals.specs.Same.{interval_same}
+use Rattle.divisibility.specs.Gcds.{gcd, gcd_by}
+use Rattle.divisibility.specs.Leasts.{least}
+use Rattle.congruences.specs.Commons.{common}
+use Rattle.congruences.specs.Numbers.{congruences}
+use Rattle.congruences.specs.Settled.{checked, pick}
+use Rattle.congruences.specs.Checks.{checked_some}
+use Rattle.model.specs.declared.line.Line.{Line}
+use Rattle.grammar.specs.declared.refusal.Cause.TheVariants.{Limit, Twice}
+use Rattle.grammar.specs.declared.refusal.Refusal.{Refusal}
+use Rattle.grammar.specs.Answer.{answer}
 use Rattle.grammar.specs.Law.{TheAnswer}
 use Rattle.grammar.proofs.Unique.{the_answer}
+use Rattle.cases.specs.Table.{Table, to_4, from_1_to_5, four_by_6, one_by_4, three_by_6, nine_by_12}
 use Rattle.cases.proofs.table.Goals as goal
 
-by-law : (s : List ℕ) (a : Answer) → answer s ≡ a → TheAnswer s a
-by-law s a e = subst (TheAnswer s) e (the_answer s)
+by_law : (s : List ℕ) (r : Result Line Refusal) → answer s ≡ r → TheAnswer s r
+by_law s r e = subst (TheAnswer s) e (the_answer s)
 
--- one line that opens no block is a closed program
-alone : Closed (sum_line ∷ [])
-alone = record { nested = (tt, refl); once = λ i k l x y s t p q. let a = s.inner in let b = t.inner in omega arith }
+joined : congruences.hull (congruences.single (pos 4)) (congruences.single (pos 10)) ≡ four_by_6
+unfolding gcd gcd_by checked pick
+joined = refl
 
-faults-at-once : (sides : List Side) (n : ℕ) (e : Env) → Dry (sum_line ∷ []) sides (suc n) 0 e (Stopped (record { line = 1; cause = Arithmetic }))
-faults-at-once sides n e = faulted (omega arith) here (stops (record { inner = omega arith; is = refl }) refl)
+shared : common one_by_4 three_by_6 ≡ checked 12 (pos 9)
+unfolding gcd gcd_by least
+shared = refl
 
-reads : Table
-reads = record {
-  blank = by-law _ _ refl;
-  sum = by-law _ _ refl;
-  fault = λ sides n e. record { is = faults-at-once sides n e; only = λ u d. one_ending (sum_line ∷ []) sides alone (suc n) 0 e u _ d (faults-at-once sides n e) };
-  beyond = by-law _ _ refl;
-  move = by-law _ _ refl;
-  while = by-law _ _ refl;
-  twice = by-law _ _ refl;
-  twice_first = by-law _ _ refl;
-  limit_first = by-law _ _ refl;
-  run_on = by-law _ _ refl;
-  early_end = by-law _ _ refl;
+table : Table
+table = record {
+  less = ap₂ both (made_some (pos 0) (pos 4) to_4 refl refl) (made_some (pos 1) (pos 5) from_1_to_5 refl refl);
+  widened = interval_same _ _ refl refl;
+  sum_read = by_law _ _ refl;
+  sum_faults = λ e. refl;
+  beyond = (Limit, refl, by_law _ _ refl);
+  joined = joined;
+  equal = ap (λ o. both o o) (shared ∙ checked_some 12 (pos 9) nine_by_12 refl refl);
+  found = refl;
+  twice = (Twice, refl, by_law _ _ refl);
 }
 
 pub returns : goal.returns
-returns c = record { reads = reads; sets = sets }
+returns c = table
