@@ -1,7 +1,7 @@
 // The travel of a gantry: two sides for each axis.
 ghost use Rattle.std.specs.Prelude.{◌≡◌};
 ghost use Rattle.model.specs.Axes.{along};
-ghost use Rattle.travel.specs.Gantries.{other_axis, bound, at_most, at_least, gantry_sides};
+ghost use Rattle.travel.specs.Gantries.{other_axis, bound, at_most, at_least};
 ghost use Rattle.travel.specs.Gantries.{gantry_envelope, lies_in, inside_ends};
 ghost use Rattle.travel.specs.GantryLaw.{gantry_lawful};
 
@@ -64,21 +64,6 @@ impl Gantry {
     {
         bound(Sign::Minus, v, -self.ends.lower.get(v))
     }
-
-    fn sides(&self) -> [Side; 8]
-        ensures { result ≡ gantry_sides self.now }
-    {
-        [
-            self.at_most(Axis::X),
-            self.at_least(Axis::X),
-            self.at_most(Axis::Y),
-            self.at_least(Axis::Y),
-            self.at_most(Axis::Z),
-            self.at_least(Axis::Z),
-            self.at_most(Axis::U),
-            self.at_least(Axis::U),
-        ]
-    }
 }
 
 impl Travel for Gantry {
@@ -91,7 +76,17 @@ impl Travel for Gantry {
     }
 
     fn side(&self, n: usize) -> Option<Side> {
-        self.sides().get(n).copied()
+        match n {
+            0 => Some(self.at_most(Axis::X)),
+            1 => Some(self.at_least(Axis::X)),
+            2 => Some(self.at_most(Axis::Y)),
+            3 => Some(self.at_least(Axis::Y)),
+            4 => Some(self.at_most(Axis::Z)),
+            5 => Some(self.at_least(Axis::Z)),
+            6 => Some(self.at_most(Axis::U)),
+            7 => Some(self.at_least(Axis::U)),
+            _ => None,
+        }
     }
 
     fn home(&self) -> Position {
