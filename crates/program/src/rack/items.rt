@@ -5,8 +5,8 @@ ghost use Rattle.program.specs.Racks.{listed};
 use crate::rack::Rack;
 
 impl<T: Copy, const N: usize> Rack<T, N> {
-    // Every place is filled with the blank, and none is held. Not inlined, or a rack would be moved by the parts of its items, one by one.
-    #[inline(never)]
+    // Every place is filled with the blank, and none is held. Inlined, so that the places are filled where the rack will lie.
+    #[inline(always)]
     pub(crate) fn new(blank: T) -> Rack<T, N>
         ensures { listed result ≡ [] }
     {
