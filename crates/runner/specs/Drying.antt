@@ -1,5 +1,5 @@
 -- Where a dry run starts, and what one step of it leaves to be done.
-use Rattle.std.specs.Prelude.{◌≡◌, ℕ, zero, suc, ◌+◌, cond, List, [], ◌∷◌, length, ℤ, pos, Some, None, Ok, Err, Option, Result, nat_lt, slice_index_or}
+use Rattle.std.specs.Prelude.{◌≡◌, ℕ, zero, suc, ◌+◌, Bool, true, cond, List, [], ◌∷◌, length, ℤ, pos, Some, None, Ok, Err, Option, Result, nat_le, nat_lt, slice_index_or}
 use Rattle.std.specs.Option.{unwrap_or}
 use Rattle.model.specs.declared.ending.Ending.{Ending}
 use Rattle.model.specs.declared.ending.Ending.TheVariants.{Ended, Running, Stopped}
@@ -23,9 +23,19 @@ abbrev pub start : Position → List ℤ → Env
 start h vs = h.x ∷ (h.y ∷ (h.z ∷ (h.u ∷ (slice_index_or vs 0 (pos 0) ∷ (slice_index_or vs 1 (pos 0) ∷ (slice_index_or vs 2 (pos 0) ∷ (slice_index_or vs 3 (pos 0) ∷ (slice_index_or vs 4 (pos 0) ∷ (slice_index_or vs 5 (pos 0) ∷ [])))))))))
 
 -- the number of the line under a run, from 1; none past the last line, and where no run goes
-abbrev pub number : List Line → Option ℕ → Option ℕ
-number lines None = None
-number lines (Some n) = cond (nat_lt n (length lines)) (Some (n + 1)) None
+abbrev pub number_under : List Line → Option ℕ → Option ℕ
+number_under lines None = None
+number_under lines (Some n) = cond (nat_lt n (length lines)) (Some (n + 1)) None
+
+-- the same where each run has a number: that of the last line past it, and 0 where none goes
+abbrev pub number : List Line → Option ℕ → ℕ
+number lines None = 0
+number lines (Some n) = cond (nat_lt n (length lines)) (n + 1) (length lines)
+
+-- no line stands under a run that is past the last one, or where none goes
+abbrev pub is_past : List Line → Option ℕ → Bool
+is_past lines None = true
+is_past lines (Some n) = nat_le (length lines) n
 
 -- after its last step a run has ended or is running
 abbrev pub outlook : Option ℕ → Ending
@@ -51,11 +61,11 @@ ending_by v n (Ok Fault) = stopped_for n Arithmetic
 ending_by v n (Err e) = Some Ended
 
 abbrev pub ending_at : List Line → Envelope → Run → Option Ending
-ending_at lines v r = ending_by v (number lines r.at) (step_of lines r).answer
+ending_at lines v r = ending_by v (number_under lines r.at) (step_of lines r).answer
 
 -- what at most so many steps from r come to, in any program, closed or not
 unfoldable pub dried : List Line → Envelope → ℕ → Run → Ending
-dried lines v zero r = outlook (number lines r.at)
+dried lines v zero r = outlook (number_under lines r.at)
 dried lines v (suc k) r = unwrap_or (ending_at lines v r) (dried lines v k (step_of lines r).run)
 
 -- a step from r comes to an ending, whatever number of steps was left; or leads to t, and what follows from there follows

@@ -3,7 +3,7 @@ ghost use Rattle.std.specs.Prelude.{◌≡◌};
 ghost use Rattle.model.specs.Programs.{Closed};
 ghost use Rattle.model.specs.Whole.{TheEnding};
 ghost use Rattle.program.specs.Held.{held};
-ghost use Rattle.runner.specs.Drying.{start, number, outlook, stopped_for, ending_at, dried, Tried};
+ghost use Rattle.runner.specs.Drying.{start, number_under, outlook, stopped_for, ending_at, dried, Tried};
 ghost use Rattle.runner.specs.Plain.{run_at};
 ghost use Rattle.runner.specs.Steps.{step_of};
 
@@ -28,7 +28,7 @@ fn try_step<T: Travel>(run: &mut Run, program: &Program, travel: &T) -> Option<E
     ensures leads { run.new ≡ (step_of (held program.now) run.old).run }
     ensures plain { Closed (held program.now) → Tried (held program.now) (T.envelope travel.now) run.old result run.new }
 {
-    let line = run.line_number(program);
+    let line = run.number_under(program);
     match run.step(program) {
         Ok(Stepped::WentOn) => None,
         Ok(Stepped::Commanded(p)) => stopped(line, Cause::Travel(lowest_broken(travel, p)?)),
@@ -40,9 +40,9 @@ fn try_step<T: Travel>(run: &mut Run, program: &Program, travel: &T) -> Option<E
 }
 
 fn outlook(run: &Run, program: &Program) -> Ending
-    ensures { result ≡ outlook (number (held program.now) run.now.at) }
+    ensures { result ≡ outlook (number_under (held program.now) run.now.at) }
 {
-    match run.line_number(program) {
+    match run.number_under(program) {
         None => Ending::Ended,
         Some(_) => Ending::Running,
     }

@@ -6,7 +6,7 @@ ghost use Rattle.model.specs.Sides.{axis_register};
 ghost use Rattle.model.specs.Programs.{Closed};
 ghost use Rattle.model.specs.Values.{holds};
 ghost use Rattle.program.specs.Held.{held};
-ghost use Rattle.runner.specs.Drying.{start, number};
+ghost use Rattle.runner.specs.Drying.{start, number, number_under, is_past};
 ghost use Rattle.runner.specs.Plain.{no_run, run_at, PlainStep};
 ghost use Rattle.runner.specs.Steps.{worked, set_if, assigned, moved, behind, first, went, gone, commanded, step_of};
 
@@ -87,11 +87,32 @@ impl Run {
     }
 
     /// The number of the line under the run, from 1; none past the last line, and where no run goes.
-    pub fn line_number(&self, program: &Program) -> Option<usize>
-        ensures { result ≡ number (held program.now) self.now.at }
+    pub fn number_under(&self, program: &Program) -> Option<usize>
+        ensures { result ≡ number_under (held program.now) self.now.at }
     {
         let n = self.at?;
         (n < program.lines().len()).then(|| n + 1)
+    }
+
+    /// The number of the line under the run, from 1; that of the last line past it, and 0 where no run goes.
+    pub fn line_number(&self, program: &Program) -> usize
+        ensures { result ≡ number (held program.now) self.now.at }
+    {
+        let count = program.lines().len();
+        match self.at {
+            None => 0,
+            Some(n) => if n < count { n + 1 } else { count },
+        }
+    }
+
+    /// Whether the run is past the last line, or none goes.
+    pub fn is_past(&self, program: &Program) -> bool
+        ensures { result ≡ is_past (held program.now) self.now.at }
+    {
+        match self.at {
+            None => true,
+            Some(n) => program.lines().len() <= n,
+        }
     }
 
     fn position(&self) -> Position

@@ -19,7 +19,7 @@ returns-in-Ok-Fault-clause-plain g c =
     rw c.stopped-in-Ok-Fault.ensures
     (λ h.
     let faults = rw c.in-Ok-Fault.field-0-is at (c.in-Ok-Fault.ensures.plain h) in
-    tried_fault (held c.args.program.now) _ c.args.run.now c.step.new.self _ c.line_number-line.ensures faults)
+    tried_fault (held c.args.program.now) _ c.args.run.now c.step.new.self _ c.number_under-line.ensures faults)
 
 pub returns-in_err-lowest_broken-in-Ok-Commanded-clause-plain : goal.returns-in_err-lowest_broken-in-Ok-Commanded-clause-plain
 returns-in_err-lowest_broken-in-Ok-Commanded-clause-plain g c =
@@ -35,4 +35,4 @@ returns-in_ok-lowest_broken-in-Ok-Commanded-clause-plain g c =
     rw c.stopped.ensures
     (λ h.
     let commands = rw c.in-Ok-Commanded.field-0-is at (c.in-Ok-Commanded.ensures.plain h) in
-    tried_left (held c.args.program.now) _ c.args.run.now c.step.new.self _ _ _ c.line_number-line.ensures broken commands)
+    tried_left (held c.args.program.now) _ c.args.run.now c.step.new.self _ _ _ c.number_under-line.ensures broken commands)
