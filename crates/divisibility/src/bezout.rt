@@ -4,7 +4,7 @@ ghost use Rattle.divisibility.specs.Multiples.{Multiple};
 ghost use Rattle.divisibility.specs.Gcds.{Brings};
 
 #[derive(Clone, Copy)]
-pub(crate) struct Bezout {
+pub struct Bezout {
     pub divisor: u64,
     pub times: u64,
 }
@@ -19,7 +19,7 @@ fn less_product(p: u64, k: u64, q: u64, n: u64) -> u64
 }
 
 // The gcd of m and n, and how often m makes it, but for a multiple of n.
-pub(crate) fn extended_gcd(m: u64, n: u64) -> Bezout
+pub fn extended_gcd(m: u64, n: u64) -> Bezout
     requires { (m < 2 ^ 32) × ((0 < n) × (n < 2 ^ 32)) }
     ensures brings { Brings m n result.divisor result.times }
     ensures below { result.times < n }

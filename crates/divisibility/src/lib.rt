@@ -3,7 +3,7 @@
 
 #![tactic(auto)]
 
-mod bezout;
+pub mod bezout;
 pub mod equations;
 pub mod euclid;
 pub mod remainders;

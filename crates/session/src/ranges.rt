@@ -20,7 +20,7 @@ pub struct Ranges {
 }
 
 // Whether the parameter, from 1, may be allowed the range. It is given by its number, since numbers of no parameter are refused here.
-fn check_range(parameter: u32, range: Range) -> Result<(), AllowRefusal>
+pub fn check_range(parameter: u32, range: Range) -> Result<(), AllowRefusal>
     ensures says { result ≡ allow_answer parameter range }
     ensures known { OnOk result ((1 ≤ parameter) × (parameter ≤ parameters)) }
 {
