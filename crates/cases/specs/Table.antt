@@ -1,14 +1,20 @@
 -- Worked examples: what the rules for intervals, congruences and texts come to where it can be followed by hand.
-use Rattle.std.specs.Prelude.{◌≡◌, ℕ, false, List, pos, Some, Ok, codes, refl}
+use Rattle.std.specs.Prelude.{◌≡◌, ℕ, suc, false, List, [], ◌∷◌, pos, Some, Ok, codes, refl}
 use Rattle.model.specs.declared.expression.Op.TheVariants.{Add}
 use Rattle.model.specs.declared.expression.Parameter.TheVariants.{P1}
 use Rattle.model.specs.declared.expression.Rel.TheVariants.{Eq, Lt}
 use Rattle.model.specs.declared.expression.Term.TheVariants.{Number}
 use Rattle.model.specs.declared.expression.Value.{Value}
+use Rattle.model.specs.declared.ending.Cause.TheVariants.{Arithmetic}
+use Rattle.model.specs.declared.ending.Ending.TheVariants.{Stopped}
 use Rattle.model.specs.declared.line.Line.{Line}
 use Rattle.model.specs.declared.line.Line.TheVariants.{Setting}
+use Rattle.model.specs.declared.side.Side.{Side}
+use Rattle.model.specs.Axes.{Position}
+use Rattle.model.specs.Envelopes.{Envelope}
 use Rattle.model.specs.Environments.{Env}
 use Rattle.model.specs.Values.{fine}
+use Rattle.model.specs.Whole.{TheEnding}
 use Rattle.intervals.specs.declared.interval.Interval.{Interval}
 use Rattle.intervals.specs.Made.{between}
 use Rattle.intervals.specs.Intervals.{intervals}
@@ -52,6 +58,10 @@ nine_by_12 = record { modulus = 12; residue = pos 9; ok = refl }
 abbrev pub sum : Value
 sum = applied Add (Number (pos 10000000)) (Number (pos 1))
 
+-- sides and a home, with all positions as the region: what a dry run comes to is told by the sides alone
+abbrev pub bounded_by : List Side → Position → Envelope
+bounded_by ss h = record { region = λ p. Unit {0}; sides = ss; home = h }
+
 -- the text is this line, and nothing else
 abbrev pub ReadAs : List ℕ → Line → Type 0
 ReadAs s l = TheAnswer s (Ok l)
@@ -69,6 +79,8 @@ pub record Table : Type 0 where
   pub sum_read : ReadAs (codes "#1=[10000000+1]") (Setting P1 sum)
   -- this one comes to more than any register may have, so it faults, whatever the registers have
   pub sum_faults : (e : Env) → fine e sum ≡ false
+  -- and a run stops there: on every travel, with at least one step, whatever the registers have
+  pub sum_stops : (sides : List Side) (home : Position) (n : ℕ) (e : Env) → TheEnding (Setting P1 sum ∷ []) (bounded_by sides home) (suc n) 0 e (Stopped (record { line = 1; cause = Arithmetic }))
   -- the same number may not be written itself: its digits begin at place 3
   pub beyond : RefusedWith (codes "#1=10000001") 14 3
   -- the numbers 4 and 10, joined
