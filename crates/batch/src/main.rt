@@ -32,7 +32,7 @@ fn main(rt: HostRuntime) -> anyhow::Result<()> {
     // Each input is cut off by the marker behind it, so what is left is handed on; an iterator for this one loop would be longer.
     let mut rest = bytes.as_slice();
     while let Some((input, more)) = first_input(rest) {
-        let report = report_on(rt.alloc(), input)?;
+        let report = report_on(input);
         println!(rt; "{report}")?;
         rest = more;
     }

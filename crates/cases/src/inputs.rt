@@ -4,7 +4,7 @@ use std::process::Abort;
 use std::test::*;
 
 fn check_report(rt: &(impl Abort + AllocGlobal), input: &[u8], text: &str) -> Result<(), Fail> {
-    let report = report_on(rt.alloc(), input)?;
+    let report = report_on(input);
     let shown = format!(in rt.alloc(); "{report}")?;
     assert!(rt; shown.as_str() == text);
     Ok(())

@@ -1,5 +1,5 @@
 -- What the law says of the answers to the calls of an input: what is read of its lines, one after another.
-use Rattle.std.proofs.Common.{◌≡◌, ℕ, ◌+◌, ◌≤◌, Bool, true, false, cond, List, [], ◌∷◌, ◌++◌, length, Some, None, Ok, Err, Option, Result, is_ok, sym, refl, ap, ◌∙◌, subst, arith}
+use Rattle.std.proofs.Common.{◌≡◌, ℕ, suc, ◌+◌, ◌≤◌, Bool, true, false, cond, List, [], ◌∷◌, ◌++◌, length, Some, None, Ok, Err, Option, Result, is_ok, sym, refl, ap, ◌∙◌, subst, arith}
 use Rattle.std.specs.Prelude.{◌-◌, slice_set}
 use Rattle.grammar.specs.Answer.{answer}
 use Rattle.model.specs.Envelopes.{Envelope}
@@ -20,8 +20,26 @@ use Rattle.console.proofs.Told.{one_allowed, one_taken}
 use Rattle.console.specs.declared.range_line.RangeLine.{RangeLine}
 use Rattle.console.specs.declared.refusal.Refusal.TheVariants.{RangeText, Allow as OfAllow, Line as OfLine}
 use Rattle.console.specs.RangeLines.{range_of}
-use Rattle.console.specs.Asked.{ask, asked_by, asked_ranges, behind, program_lines, behind_more, first_refusal, allow_events, line_events}
+use Rattle.console.specs.Asked.{ask, asked_by, asked_ranges, behind, program_lines, allow_events, line_events}
+use Rattle.console.specs.Played.{Ends}
 use Rattle.console.specs.Readings.{is_range, Reading, stopped_at, Skipped, rest, stopped, by_allow, by_range, ranges_with, after_range, skip, by_line, ending, program_reading}
+
+-- the first refusal among answers, with its number, from 1
+abbrev pub behind_more : {E : Type 0} → ℕ → Option (ℕ × E) → Option (ℕ × E)
+behind_more n None = None
+behind_more n (Some p) = Some (p.0 + n, p.1)
+
+abbrev pub first_refusal : {E : Type 0} → List (Result (Unit {0}) E) → Option (ℕ × E)
+first_refusal [] = None
+first_refusal (Ok u ∷ rs) = behind_more 1 (first_refusal rs)
+first_refusal (Err e ∷ rs) = Some (1, e)
+
+-- ---- answers to some calls, of which only the last may be refused
+none_left : {m : ℕ} → 0 ≡ suc m → ⊥
+none_left e = omega arith
+
+ends_rest : {E : Type 0} (rs : List (Result (Unit {0}) E)) (n : ℕ) → Ends (Ok tt ∷ rs) (suc n) → Ends rs n
+ends_rest rs n e = let k : e.0 ≡ n = let j = e.1 in omega arith in subst (Ends rs) k e.2
 
 -- the past with a list of ranges accepted
 abbrev pub with_ranges : List Allow → List Event → List Event
@@ -104,24 +122,27 @@ module _ (travel : Envelope) where
 
   -- the first line, where the others are read
   ranges_step : (past : List Event) (l : List ℕ) (ls : List (List ℕ)) (rs : List (Result (Unit {0}) AllowRefusal)) (more : List Event)
-      → ((now : List Event) (ss : List (Result (Unit {0}) AllowRefusal)) → length ss ≡ length (asked_ranges ls) → Lawful travel now (allow_events (asked_ranges ls) ss ++ more) → ReadRanges now ls (first_refusal ss) (program_lines ls) more)
-      → length rs ≡ length (asked_ranges (l ∷ ls)) → Lawful travel past (allow_events (asked_ranges (l ∷ ls)) rs ++ more) → ReadRanges past (l ∷ ls) (first_refusal rs) (program_lines (l ∷ ls)) more
+      → ((now : List Event) (ss : List (Result (Unit {0}) AllowRefusal)) → Ends ss (length (asked_ranges ls)) → Lawful travel now (allow_events (asked_ranges ls) ss ++ more) → ReadRanges now ls (first_refusal ss) (program_lines ls) more)
+      → Ends rs (length (asked_ranges (l ∷ ls))) → Lawful travel past (allow_events (asked_ranges (l ∷ ls)) rs ++ more) → ReadRanges past (l ∷ ls) (first_refusal rs) (program_lines (l ∷ ls)) more
   ranges_step past l ls rs more others e h = go (is_range l) refl (range_of l) refl rs e h
     where
       go : (b : Bool) → is_range l ≡ b → (o : Option RangeLine) → range_of l ≡ o → (rs : List (Result (Unit {0}) AllowRefusal))
-          → length rs ≡ length (cond b (asked_by o (asked_ranges ls)) []) → Lawful travel past (allow_events (cond b (asked_by o (asked_ranges ls)) []) rs ++ more) → ReadRanges past (l ∷ ls) (first_refusal rs) (program_lines (l ∷ ls)) more
+          → Ends rs (length (cond b (asked_by o (asked_ranges ls)) [])) → Lawful travel past (allow_events (cond b (asked_by o (asked_ranges ls)) []) rs ++ more) → ReadRanges past (l ∷ ls) (first_refusal rs) (program_lines (l ∷ ls)) more
       go false p o q [] e h = behind_ranges past l ls more p h
-      go false p o q (r ∷ rs) e h = absurd (omega arith)
+      go false p o q (Ok u ∷ rs) e h = absurd (none_left e.1)
+      go false p o q (Err x ∷ rs) e h = absurd (omega arith)
       go true p None q [] e h = malformed_range past l ls more p q
-      go true p None q (r ∷ rs) e h = absurd (omega arith)
+      go true p None q (Ok u ∷ rs) e h = absurd (none_left e.1)
+      go true p None q (Err x ∷ rs) e h = absurd (omega arith)
       go true p (Some a) q [] e h = absurd (omega arith)
       go true p (Some a) q (Ok u ∷ rs) e h =
-          next_range past l ls more a p q u (one_allowed (Ok u) (allow_answer a.parameter a.range) h.0.2) (first_refusal rs) (others (event (allow a.parameter a.range) done ∷ past) rs (omega arith) h.1)
+          next_range past l ls more a p q u (one_allowed (Ok u) (allow_answer a.parameter a.range) h.0.2) (first_refusal rs) (others (event (allow a.parameter a.range) done ∷ past) rs (ends_rest rs (length (asked_ranges ls)) e) h.1)
       go true p (Some a) q (Err why ∷ rs) e h = refuses past l ls more a p q why (one_allowed (Err why) (allow_answer a.parameter a.range) h.0.2)
 
-  pub ranges_read : (past : List Event) (ls : List (List ℕ)) (rs : List (Result (Unit {0}) AllowRefusal)) (more : List Event) → length rs ≡ length (asked_ranges ls) → Lawful travel past (allow_events (asked_ranges ls) rs ++ more) → ReadRanges past ls (first_refusal rs) (program_lines ls) more
+  pub ranges_read : (past : List Event) (ls : List (List ℕ)) (rs : List (Result (Unit {0}) AllowRefusal)) (more : List Event) → Ends rs (length (asked_ranges ls)) → Lawful travel past (allow_events (asked_ranges ls) rs ++ more) → ReadRanges past ls (first_refusal rs) (program_lines ls) more
   ranges_read past [] [] more e h = record { skips = refl; program = refl; lawful = h }
-  ranges_read past [] (r ∷ rs) more e h = absurd (omega arith)
+  ranges_read past [] (Ok u ∷ rs) more e h = absurd (none_left e.1)
+  ranges_read past [] (Err x ∷ rs) more e h = absurd (omega arith)
   ranges_read past (l ∷ ls) rs more e h = ranges_step past l ls rs more (λ now ss. ranges_read now ls ss more) e h
 
   -- ---- lines of the program
@@ -169,10 +190,11 @@ module _ (travel : Envelope) where
         let k : AnswersLine (program_of past) s (done_or line_refusal r) = after_computed travel past (λ now. AnswersLine now.program s (done_or line_refusal r)) h in
         one_taken r (line_answer (program_of past) s) (line_computed (program_of past) s (done_or line_refusal r) k)
 
-  pub lines_read : (n : ℕ) (ts : List Range) (past : List Event) (ss : List (List ℕ)) (rs : List (Result (Unit {0}) LineRefusal)) (more : List Event) → length rs ≡ length ss → Lawful travel past (line_events ss rs ++ more) → ReadLines n ts past ss (first_refusal rs) more
+  pub lines_read : (n : ℕ) (ts : List Range) (past : List Event) (ss : List (List ℕ)) (rs : List (Result (Unit {0}) LineRefusal)) (more : List Event) → Ends rs (length ss) → Lawful travel past (line_events ss rs ++ more) → ReadLines n ts past ss (first_refusal rs) more
   lines_read n ts past [] [] more e h = record { reads = refl; allowed = refl; few = λ b. b; lawful = h }
-  lines_read n ts past [] (r ∷ rs) more e h = absurd (omega arith)
+  lines_read n ts past [] (Ok u ∷ rs) more e h = absurd (none_left e.1)
+  lines_read n ts past [] (Err x ∷ rs) more e h = absurd (omega arith)
   lines_read n ts past (s ∷ ss) [] more e h = absurd (omega arith)
   lines_read n ts past (s ∷ ss) (Ok u ∷ rs) more e h =
-      next_line n ts past s ss more u (line_taken n ts past s ss more (Ok u) h.0) (first_refusal rs) (lines_read (n + 1) ts (event (line s) done ∷ past) ss rs more (omega arith) h.1)
+      next_line n ts past s ss more u (line_taken n ts past s ss more (Ok u) h.0) (first_refusal rs) (lines_read (n + 1) ts (event (line s) done ∷ past) ss rs more (ends_rest rs (length ss) e) h.1)
   lines_read n ts past (s ∷ ss) (Err why ∷ rs) more e h = line_refused n ts past s ss more why (line_taken n ts past s ss more (Err why) h.0)

@@ -6,6 +6,8 @@ pub mod FewBlocks
 pub mod Told
 pub mod Answered
 pub mod Reported
-pub mod Judged
 pub mod Readings
 pub mod Reports
+pub mod PlayedEvents
+pub mod PlayedInput
+pub mod Stopped

@@ -1,5 +1,5 @@
 -- What the answers to the calls of an input are reported as is the report on what is read of it.
-use Rattle.std.proofs.Common.{◌≡◌, ℕ, ◌+◌, ◌≤◌, Bool, true, false, cond, ltb, List, [], ◌∷◌, ◌++◌, length, None, Some, is_none, Option, Ok, Err, Result, refl, sym, ap, ◌∙◌, subst, arith}
+use Rattle.std.proofs.Common.{◌≡◌, ℕ, ◌+◌, ◌≤◌, Bool, true, false, cond, ltb, List, [], ◌∷◌, length, None, Some, Option, Ok, Err, refl, sym, ap, ◌∙◌, subst, arith}
 use Rattle.std.proofs.lemmas.Bool.{both_ways}
 use Rattle.std.proofs.lemmas.Bool.Decides.{nat_tests}
 use Rattle.model.specs.Blocks.{closed}
@@ -11,23 +11,22 @@ use Rattle.travel.specs.declared.gantry.Gantry.{Gantry}
 use Rattle.program.specs.Limits.{max_blocks}
 use Rattle.program.specs.declared.refusal.LineRefusal.{LineRefusal}
 use Rattle.session.specs.Answers.{no_ranges}
-use Rattle.session.specs.declared.refusal.AllowRefusal.{AllowRefusal}
 use Rattle.sweep.specs.Blocks.{states_for}
 use Rattle.certify.specs.Certifies.{Answer as Verdict, TheVerdict, Promised}
 use Rattle.certify.specs.declared.refusal.CertifyRefusal.TheVariants.{Open as Unclosed, Store, Uncertified as Fails}
-use Rattle.calls.specs.declared.single.Allow.{Allow}
 use Rattle.calls.specs.Events.{domain}
-use Rattle.calls.specs.Law.{Event, by_verdict, standing, After, AnswersCertify, Lawful, allowed_after}
+use Rattle.calls.specs.Law.{Event, by_verdict, standing, After, AnswersCertify, allowed_after}
 use Rattle.calls.proofs.Computed.{program_of, after_computed}
 use Rattle.console.specs.declared.refusal.Refusal.{Refusal}
-use Rattle.console.specs.declared.refusal.Refusal.TheVariants.{Input, RangeText, Allow as OfAllow, Line as OfLine, Open}
+use Rattle.console.specs.declared.refusal.Refusal.TheVariants.{Input, Line as OfLine, Open}
 use Rattle.console.specs.declared.report.Report.{Report}
-use Rattle.console.specs.Asked.{asked_ranges, program_lines, first_refusal, allow_events, line_events, certify_event, Played, ReportsVerdict, ReportsAnswers}
+use Rattle.console.specs.Asked.{certify_event}
+use Rattle.console.specs.Played.{ReportsVerdict}
 use Rattle.console.specs.Lines.{lines_of}
-use Rattle.console.specs.Readings.{max_input, Reading, whole, stopped_at, Skipped, rest, stopped, by_skipped, skip, ending, program_reading, reading_of}
+use Rattle.console.specs.Readings.{max_input, Reading, whole, stopped_at, Skipped, by_skipped, skip, ending, program_reading, reading_of}
 use Rattle.console.specs.Report.{refused_at}
 use Rattle.console.specs.Verdicts.{lattice, Reported, Promises}
-use Rattle.console.proofs.Answered.{ReadRanges, ReadLines, ranges_read, lines_read, with_ranges, with_lines}
+use Rattle.console.proofs.Answered.{ReadLines, with_lines}
 use Rattle.console.proofs.Told.{one_verdict}
 
 module _ (g : Gantry) where
@@ -40,7 +39,7 @@ module _ (g : Gantry) where
     pub promised : Promises g r o
 
   -- a refusal is reported as it is
-  stopped_report : (n : ℕ) (why : Refusal) (r : Report) → r ≡ refused_at n why → Judgement (stopped_at n why) r
+  pub stopped_report : (n : ℕ) (why : Refusal) (r : Report) → r ≡ refused_at n why → Judgement (stopped_at n why) r
   stopped_report n why r e = record { reported = e; promised = tt }
 
   -- ---- the verdict
@@ -77,46 +76,36 @@ module _ (g : Gantry) where
     promised_by = subst (Promised (program_of past) bench (allowed_after past)) (one_verdict v answers.verdict answers.is) answers.promised
 
   -- ---- the whole input
-  -- the program with its certify, behind the ranges
-  module _ (past : List Event) (ss : List (List ℕ)) (v : Verdict) (r : Report) where
+  -- the program behind the ranges: where a line is refused, and where all are taken
+  module _ (past : List Event) (ss : List (List ℕ)) where
     abbrev after_lines : List Event
     after_lines = with_lines ss past
 
-    by_lines : (f : Option (ℕ × LineRefusal)) → ReadLines bench 0 (allowed_after past) past ss f (certify_event v ∷ []) → states_for (program_of past) ≤ max_blocks → ReportsAnswers None false f v r
-        → Judgement (program_reading (0 + 1) (allowed_after past) (program_of past) ss) r
-    by_lines (Some p) reads few is =
+    abbrev Read : Option (ℕ × LineRefusal) → List Event → Type 0
+    Read f more = ReadLines bench 0 (allowed_after past) past ss f more
+
+    abbrev reading : Reading
+    reading = program_reading 1 (allowed_after past) (program_of past) ss
+
+    pub line_reported : (p : ℕ × LineRefusal) (more : List Event) (r : Report) → Read (Some p) more → r ≡ refused_at p.0 (OfLine p.1) → Judgement reading r
+    line_reported p more r reads is =
         let here : 0 + p.0 ≡ p.0 = omega arith in
         subst (λ x. Judgement x r) (sym (reads ∙ ap (λ n. stopped_at n (OfLine p.1)) here)) (stopped_report p.0 (OfLine p.1) r is)
-    by_lines None reads few is =
-        let now = program_of after_lines in
-        let t = subst (λ ts. TheVerdict lattice now bench ts max_blocks v) reads.allowed (the_verdict after_lines v reads.lawful.0) in
-        let p = subst (λ ts. Promised now bench ts v) reads.allowed (promised_by after_lines v reads.lawful.0) in
-        subst (λ x. Judgement x r) (sym reads.reads) (verdict_reported now (allowed_after past) (reads.few few) v r t p is)
+
+    module _ (v : Verdict) (reads : Read None (certify_event max_blocks v ∷ [])) (few : states_for (program_of past) ≤ max_blocks) where
+      pub program_reported : (r : Report) → ReportsVerdict v r → Judgement reading r
+      program_reported r is =
+          let now = program_of after_lines in
+          let t = subst (λ ts. TheVerdict lattice now bench ts max_blocks v) reads.allowed (the_verdict after_lines v reads.lawful.0) in
+          let p = subst (λ ts. Promised now bench ts v) reads.allowed (promised_by after_lines v reads.lawful.0) in
+          subst (λ x. Judgement x r) (sym reads.reads) (verdict_reported now (allowed_after past) (reads.few few) v r t p is)
+
+      -- enough states are lent for a program that is taken whole
+      pub never : v ≡ Err Store → ⊥
+      never e = never_short (program_of after_lines) (allowed_after after_lines) (reads.few few) v (the_verdict after_lines v reads.lawful.0) e
 
   module _ (bs : List ℕ) (short : length bs ≤ max_input) where
-    reading_by : (s : Skipped) → skip no_ranges (lines_of bs) ≡ s → by_skipped s ≡ reading_of bs
+    pub reading_by : (s : Skipped) → skip no_ranges (lines_of bs) ≡ s → by_skipped s ≡ reading_of bs
     reading_by s e =
         let t : ltb max_input (length bs) ≡ false = grind (arith, nat_tests) in
         sym ((λ i. cond (t i) (stopped_at 0 Input) (by_skipped (skip no_ranges (lines_of bs)))) ∙ ap by_skipped e)
-
-    by_ranges : (f : Option (ℕ × AllowRefusal)) (o : Option (List (List ℕ))) (ss : List (List ℕ)) (qs : List (Result (Unit {0}) LineRefusal)) (v : Verdict) (r : Report)
-        → ((ps : List (List ℕ)) → o ≡ Some ps → ss ≡ ps) → length qs ≡ length ss → ReadRanges bench [] (lines_of bs) f o (line_events ss qs ++ (certify_event v ∷ []))
-        → ReportsAnswers f (is_none o) (first_refusal qs) v r → Judgement (reading_of bs) r
-    by_ranges (Some p) o ss qs v r same e reads is = subst (λ x. Judgement x r) (reading_by (stopped (OfAllow p.1)) reads) (stopped_report 0 (OfAllow p.1) r is)
-    by_ranges None None ss qs v r same e reads is = subst (λ x. Judgement x r) (reading_by (stopped RangeText) reads) (stopped_report 0 RangeText r is)
-    by_ranges None (Some ps) ss qs v r same e reads is =
-        let after = with_ranges (asked_ranges (lines_of bs)) [] in
-        let here = same ps refl in
-        let lines = lines_read bench 0 (allowed_after after) after ss qs (certify_event v ∷ []) e reads.lawful in
-        let few : states_for (program_of after) ≤ max_blocks = subst (λ xs. states_for xs ≤ max_blocks) (sym reads.program) (omega arith) in
-        let whole_reading : program_reading 1 (allowed_after after) (program_of after) ss ≡ reading_of bs =
-        (λ i. program_reading 1 (allowed_after after) (reads.program i) (here i)) ∙ reading_by (rest (allowed_after after) ps) reads.skips in
-        subst (λ x. Judgement x r) whole_reading (by_lines after ss v r (first_refusal qs) lines few is)
-
-    pub answers_reported : (cs : List Allow) (ss : List (List ℕ)) (rs : List (Result (Unit {0}) AllowRefusal)) (qs : List (Result (Unit {0}) LineRefusal)) (v : Verdict) (r : Report)
-        → cs ≡ asked_ranges (lines_of bs) → ((ps : List (List ℕ)) → program_lines (lines_of bs) ≡ Some ps → ss ≡ ps) → length rs ≡ length cs → length qs ≡ length ss
-        → Played cs ss rs qs v g → ReportsAnswers (first_refusal rs) (is_none (program_lines (lines_of bs))) (first_refusal qs) v r → Judgement (reading_of bs) r
-    answers_reported cs ss rs qs v r asked same long lines k =
-        by_ranges (first_refusal rs) (program_lines (lines_of bs)) ss qs v r same lines
-        (ranges_read bench [] (lines_of bs) rs (line_events ss qs ++ (certify_event v ∷ [])) (long ∙ ap length asked)
-        (subst (λ ds. Lawful bench [] (allow_events ds rs ++ (line_events ss qs ++ (certify_event v ∷ [])))) asked k))

@@ -1,5 +1,5 @@
 -- What is reported is the report by the rules, and the only one.
-use Rattle.std.proofs.Common.{◌≡◌, ℕ, ◌≤◌, Bool, List, [], ◌∷◌, ◌++◌, length, map, Some, is_none, Ok, Err, sym, refl, ap, ◌∙◌, subst, subst₂}
+use Rattle.std.proofs.Common.{◌≡◌, ℕ, List, [], ◌∷◌, Ok, Err, sym, refl, ap, ◌∙◌, subst, subst₂}
 use Rattle.model.specs.Envelopes.{Envelope}
 use Rattle.model.specs.declared.axes.Ends.{Ends}
 use Rattle.model.specs.declared.ending.Failure.{Failure}
@@ -7,7 +7,7 @@ use Rattle.model.specs.declared.line.Axis.TheVariants.{X, Y, Z, U}
 use Rattle.model.specs.declared.line.Line.{Line}
 use Rattle.model.specs.declared.range.Range.{Range}
 use Rattle.travel.specs.Benches.{bench_gantry}
-use Rattle.travel.specs.Gantries.{at_most, at_least, gantry_envelope}
+use Rattle.travel.specs.Gantries.{at_most, at_least, gantry_envelope, GantryMade}
 use Rattle.travel.specs.Travels.{Between}
 use Rattle.travel.specs.declared.gantry.Gantry.{Gantry}
 use Rattle.program.specs.Limits.{max_blocks}
@@ -16,19 +16,15 @@ use Rattle.sweep.specs.Sweeps.{Verdict, certified, uncertified}
 use Rattle.certify.specs.Certifies.{Answer, Judged, TheVerdict}
 use Rattle.certify.specs.declared.refusal.Certificate.{Certificate}
 use Rattle.certify.specs.declared.refusal.CertifyRefusal.TheVariants.{Uncertified as Fails}
-use Rattle.calls.specs.declared.single.Allow.{Allow}
-use Rattle.calls.specs.declared.single.Line.{Line as AskedLine}
 use Rattle.console.specs.declared.refusal.Refusal.{Refusal}
 use Rattle.console.specs.declared.report.Report.{Report}
 use Rattle.console.specs.declared.report.Report.TheVariants.{Certified, Uncertified, Refused}
-use Rattle.console.specs.Asked.{asked_ranges, program_lines, first_refusal, ReportsAnswers, Answered}
-use Rattle.console.specs.Lines.{lines_of}
-use Rattle.console.specs.Readings.{max_input, Reading, whole, stopped_at, reading_of}
+use Rattle.console.specs.Readings.{Reading, whole, stopped_at, reading_of}
 use Rattle.console.specs.Report.{refused_at}
 use Rattle.console.specs.Verdicts.{lattice, OnBench, Reported, Promises}
 use Rattle.console.specs.Law.{Reads, Reports, by_refusal, by_certificate, by_failure, TheReport}
 use Rattle.console.proofs.Readings.{is_reading, one_reading}
-use Rattle.console.proofs.Reported.{Judgement, answers_reported}
+use Rattle.console.proofs.Reported.{Judgement}
 
 -- ---- gantries with the same ends
 abbrev envelope_at : Ends → Envelope
@@ -103,25 +99,13 @@ module _ (bs : List ℕ) where
   the_report g made (whole ts xs) (Refused why) e t = absurd t
   the_report g made (stopped_at n why) r e t = subst (TheReport bs) (sym t) (refused_report n why e)
 
--- ---- from the answers
-module _ (bs : List ℕ) (short : length bs ≤ max_input) (cs : List Allow) (ss : List (List ℕ)) (malformed : Bool) (o : Report) (before : List Allow) (none : before ≡ []) (noted : cs ≡ before ++ asked_ranges (lines_of bs))
-    (first : List AskedLine) (no_line : first ≡ []) (lines : (ps : List (List ℕ)) → program_lines (lines_of bs) ≡ Some ps → ss ≡ map (λ l. l.text.now) first ++ ps) (all : malformed ≡ is_none (program_lines (lines_of bs))) (a : Answered cs malformed ss o) where
-  asked : cs ≡ asked_ranges (lines_of bs)
-  asked = noted ∙ ap (λ xs. xs ++ asked_ranges (lines_of bs)) none
+-- ---- from what is judged of the answers
+module _ (bs : List ℕ) (g : Gantry) (made : GantryMade bench_gantry (Ok g)) (r : Report) (j : Judgement g (reading_of bs) r) where
+  pub law_judged : TheReport bs r
+  law_judged = the_report bs g (made.1) (reading_of bs) r refl j.reported
 
-  same : (ps : List (List ℕ)) → program_lines (lines_of bs) ≡ Some ps → ss ≡ ps
-  same ps e = lines ps e ∙ ap (λ xs. map (λ l. l.text.now) xs ++ ps) no_line
+  pub is_judged : OnBench (λ h. Reported h (reading_of bs) r)
+  is_judged h there = reported_too g h (made.1 ∙ sym there.1) (reading_of bs) r j.reported
 
-  by_answers : Judgement a.gantry (reading_of bs) o
-  by_answers =
-      answers_reported a.gantry bs short cs ss a.allowed a.taken a.verdict o asked same a.all_allowed a.all_taken a.played
-      (subst (λ b. ReportsAnswers (first_refusal a.allowed) b (first_refusal a.taken) a.verdict o) all a.is)
-
-  pub law_answered : TheReport bs o
-  law_answered = the_report bs a.gantry (a.made.1) (reading_of bs) o refl by_answers.reported
-
-  pub is_answered : OnBench (λ g. Reported g (reading_of bs) o)
-  is_answered g made = reported_too a.gantry g (a.made.1 ∙ sym made.1) (reading_of bs) o by_answers.reported
-
-  pub promised_answered : OnBench (λ g. Promises g (reading_of bs) o)
-  promised_answered g made = promises_too a.gantry g (a.made.1 ∙ sym made.1) (reading_of bs) o by_answers.promised
+  pub promised_judged : OnBench (λ h. Promises h (reading_of bs) r)
+  promised_judged h there = promises_too g h (made.1 ∙ sym there.1) (reading_of bs) r j.promised

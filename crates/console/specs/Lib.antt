@@ -5,4 +5,5 @@ pub mod Report
 pub mod Readings
 pub mod Verdicts
 pub mod Asked
+pub mod Played
 pub mod Law

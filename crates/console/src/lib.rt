@@ -6,6 +6,7 @@ mod asked;
 pub mod failure;
 pub mod input;
 pub mod lines;
+mod played;
 pub mod range_line;
 pub mod refusal;
 pub mod report;

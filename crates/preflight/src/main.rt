@@ -11,7 +11,7 @@ const ROOM: u64 = MAX_INPUT as u64 + 1;
 fn main(rt: HostRuntime) -> anyhow::Result<()> {
     let mut input = Vec::new(rt.alloc());
     let _ = rt.stdin().take(ROOM).read_to_end(&mut input)?;
-    let report = report_on(rt.alloc(), input.as_slice())?;
+    let report = report_on(input.as_slice());
     println!(rt; "{report}")?;
     Ok(())
 }
