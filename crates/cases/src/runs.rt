@@ -1,5 +1,5 @@
 // What runs come to, as the last answers to a script: here dry runs, and the helper for all.
-use desk::entry::Answer;
+use console::lines::Lines;
 use desk::script::answer_script;
 use std::alloc::{AllocError, Global};
 use std::process::Abort;
@@ -16,24 +16,20 @@ fn text_of(alloc: Global, lines: &[&[u8]]) -> Result<Vec<u8>, AllocError> {
     Ok(text)
 }
 
-fn check_shown(rt: &(impl Abort + AllocGlobal), answer: &Answer, text: &str) -> Result<(), Fail> {
-    let shown = format!(in rt.alloc(); "{answer}")?;
-    assert!(rt; shown.as_str() == text);
-    Ok(())
-}
-
-// The last answers to a script.
+// The last answers to a script, which has one for each line.
 fn check_answers(
     rt: &(impl Abort + AllocGlobal),
     script: &[&[u8]],
     last: &[&str],
 ) -> Result<(), Fail> {
-    let script = text_of(rt.alloc(), script)?;
-    let answers = answer_script(rt.alloc(), script.as_slice())?;
-    assert!(rt; last.len() <= answers.len());
-    let before = answers.len() - last.len();
-    for (answer, text) in answers.iter().skip(before).zip(last) {
-        check_shown(rt, answer, *text)?;
+    let text = text_of(rt.alloc(), script)?;
+    let mut answers = Vec::new(rt.alloc());
+    answer_script(&mut answers, text.as_slice())?;
+    assert!(rt; Lines::new(answers.as_slice()).count() == script.len());
+    assert!(rt; last.len() <= script.len());
+    let before = script.len() - last.len();
+    for (answer, text) in Lines::new(answers.as_slice()).skip(before).zip(last) {
+        assert!(rt; answer == text.as_bytes());
     }
     Ok(())
 }

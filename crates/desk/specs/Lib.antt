@@ -2,3 +2,4 @@ pub mod Texts
 pub mod Answers
 pub mod Scripts
 pub mod Stretches
+pub mod Written

@@ -6,4 +6,5 @@ pub mod answer;
 pub mod desk;
 pub mod entry;
 pub mod script;
+pub mod stretch;
 mod text;

@@ -1,4 +1,4 @@
-// Reads a script of session commands from standard input, and prints one answer a line.
+// Reads a script of session commands from standard input, and answers it line by line.
 
 #![tactic(auto)]
 
@@ -8,9 +8,6 @@ use std::io::Read;
 fn main(rt: HostRuntime) -> anyhow::Result<()> {
     let mut script = Vec::new(rt.alloc());
     rt.stdin().read_to_end(&mut script)?;
-    let answers = answer_script(rt.alloc(), script.as_slice())?;
-    for answer in &answers {
-        println!(rt; "{answer}")?;
-    }
+    answer_script(&mut rt.stdout(), script.as_slice())?;
     Ok(())
 }
