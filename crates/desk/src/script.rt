@@ -9,7 +9,7 @@ use http_server::Log;
 use std::io;
 use std::io::Write;
 
-/// Answers the lines of a script in order, and writes each answer in a line of its own before the next line is read.
+/// Answers the lines of a script in order: each answer is written, in a line of its own, before the next line is read.
 pub fn answer_script<W: Write>(writer: &mut W, script: &[u8]) -> io::Result<()>
     ensures { OnOk result (Replayed script.now (W.contents writer.old) (W.contents writer.new)) }
 {

@@ -14,7 +14,7 @@ use std::io;
 use std::io::Write;
 use travel::travel::Travel;
 
-/// Played, each line is answered as it is read, and its answer written; the next stretch is left.
+/// What is left of a script. Its next stretch is played: each line is answered as it is read, and its answer written.
 #[derive(Drop)]
 pub struct Stretch<'t, 'w, W> {
     // the text that is not read yet
@@ -32,7 +32,8 @@ impl<'t, 'w, W: Write> Calls for Stretch<'t, 'w, W> {
 
     ghost events = { λ _ d _. events_in (noted d.played.items) };
 
-    ghost stays = { λ c d r. AnswersLines W.contents c.read d.read c.text.now d.text.now c.writer d.writer (noted d.played.items) r };
+    ghost stays = { λ c d r. AnswersLines W.contents c.read d.read c.text.now d.text.now c.writer d.writer
+        (noted d.played.items) r };
 
     fn play<T: Travel>(&mut self, session: &mut Session<T>) -> io::Result<Option<Table>> {
         self.played = Log::new();
