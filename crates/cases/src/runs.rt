@@ -38,6 +38,17 @@ fn check_last(rt: &(impl Abort + AllocGlobal), script: &[&[u8]], last: &str) -> 
     check_answers(rt, script, &[last])
 }
 
+// Where there is room for no more, the answers before are there.
+#[test]
+fn a_writer_that_is_full(rt: HostRuntime) -> Result<(), Fail> {
+    let mut room = [b'.'; 10];
+    let mut writer = room.as_mut_slice();
+    let answered = answer_script(&mut writer, b"wipe\nwipe\nstep\n");
+    assert!(rt; answered.is_err());
+    assert!(rt; room == *b"ok\nok\nrefu");
+    Ok(())
+}
+
 const ROUNDS: [&[u8]; 4] = [
     b"line O1 WHILE [#1 GT 0]",
     b"line #1=[#1-1]",

@@ -3,11 +3,12 @@
 #![tactic(auto)]
 
 use desk::script::answer_script;
-use std::io::Read;
+use std::io::{LineWriter, Read};
 
 fn main(rt: HostRuntime) -> anyhow::Result<()> {
     let mut script = Vec::new(rt.alloc());
     rt.stdin().read_to_end(&mut script)?;
-    answer_script(&mut rt.stdout(), script.as_slice())?;
+    let mut answers = LineWriter::new(rt.alloc(), rt.stdout())?;
+    answer_script(&mut answers, script.as_slice())?;
     Ok(())
 }
