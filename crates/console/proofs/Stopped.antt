@@ -74,7 +74,7 @@ module _ (g : Gantry) (bs : List ℕ) (short : length bs ≤ max_input) (n m : �
   -- ---- the report
   pub stop_reported : (s : Stop) (r : Report) → Made s → ReportsStop m s r → Judgement g (reading_of bs) r
   stop_reported AtText r k is =
-      let e : skip no_ranges (lines_of bs) ≡ stopped RangeText = subst (λ o. Read None o (lines_then AtText)) k.comes (read_by AtText None (none_first AllowRefusal n) k) in
+      let e : skip no_ranges (lines_of bs) ≡ stopped RangeText = subst (λ o. Read None o (lines_then AtText)) k.comes.0 (read_by AtText None (none_first AllowRefusal n) k) in
       subst (λ x. Judgement g x r) (reading_by g bs short (stopped RangeText) e) (stopped_report g 0 RangeText r is)
   stop_reported (AtAllow why) r k is =
       let e : skip no_ranges (lines_of bs) ≡ stopped (OfAllow why) = read_by (AtAllow why) (Some (n + 1, why)) (last_first n why) k in

@@ -76,10 +76,10 @@ asked_events ls states n m stop =
     allow_events (asked_ranges ls) (answers n (refusals (allow_at stop)))
     ++ (line_events (lines_behind (program_lines ls)) (answers m (refusals (line_at stop))) ++ certify_events states stop)
 
--- the calls behind the ranges come to their end, or to this refusal
+-- the calls behind the ranges come to their end, or to this refusal; none is made behind a range line that is refused
 abbrev pub Comes : Option (List (List ℕ)) → ℕ → Stop → Type 0
-Comes o m AtText = o ≡ None
-Comes o m (AtAllow e) = Unit {0}
+Comes o m AtText = (o ≡ None) × (m ≡ 0)
+Comes o m (AtAllow e) = m ≡ 0
 Comes o m (AtLine e) = (ps : List (List ℕ)) × (o ≡ Some ps) × Ends (answers m (Err e ∷ [])) (length ps)
 Comes o m (AtVerdict v) = (ps : List (List ℕ)) × (o ≡ Some ps) × Ends (answers {E = LineRefusal} m []) (length ps)
 

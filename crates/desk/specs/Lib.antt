@@ -3,3 +3,4 @@ pub mod Answers
 pub mod Scripts
 pub mod Stretches
 pub mod Written
+pub mod Serving

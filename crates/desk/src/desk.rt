@@ -3,12 +3,15 @@ ghost use Rattle.std.specs.Prelude.{◌≡◌, Ok};
 ghost use Rattle.command.specs.Commands.{command_of};
 ghost use Rattle.travel.specs.Benches.{bench_gantry};
 ghost use Rattle.desk.specs.Scripts.{OnGantry, OnBeam, Names, Enters};
+ghost use Rattle.desk.specs.Serving.{Serves};
 
-use crate::answer::Note;
-use crate::entry::Entry;
+use crate::answer::{Note, Reply};
+use crate::entry::{Answer, Entry};
+use calls::calls::Calls;
 use command::command::{Command, NewTable, read_command};
 use either::Either;
 use model::axes::Ends;
+use session::session::Session;
 use travel::beam::Beam;
 use travel::bench::{BENCH_BEAM, BENCH_GANTRY, BENCH_GAP};
 use travel::gantry::Gantry;
@@ -63,5 +66,27 @@ pub fn read_entry(n: usize, line: &[u8]) -> Entry
             Ok(made) => Entry::Table(made),
             Err(refusal) => Entry::Note(Note::NoTable(refusal)),
         },
+    }
+}
+
+/// Answers line n of a script on the session that stands. A table that there is begins a new session in its place.
+pub fn serve<'a>(session: &mut Session<Table>, n: usize, line: &'a [u8]) -> Answer<'a>
+    ensures { Serves session.old n (command_of line.now) result session.new }
+{
+    let mut entry = read_entry(n, line);
+    match entry {
+        Entry::Call(_) => {
+            let reply = entry.play(session);
+            Answer { entry, reply }
+        }
+        Entry::Table(table) => {
+            *session = Session::new(table);
+            let reply = Reply::Done;
+            Answer { entry, reply }
+        }
+        Entry::Note(_) => {
+            let reply = Reply::Done;
+            Answer { entry, reply }
+        }
     }
 }

@@ -6,9 +6,9 @@ use desk::script::answer_script;
 use std::io::{LineWriter, Read};
 
 fn main(rt: HostRuntime) -> anyhow::Result<()> {
+    let mut answers = LineWriter::new(rt.alloc(), rt.stdout())?;
     let mut script = Vec::new(rt.alloc());
     rt.stdin().read_to_end(&mut script)?;
-    let mut answers = LineWriter::new(rt.alloc(), rt.stdout())?;
     answer_script(&mut answers, script.as_slice())?;
     Ok(())
 }

@@ -21,7 +21,7 @@ returns-in-Err-Text g c =
     record {
       kept = all.kept;
       left = all.left;
-      stays = (subst (λ x. Ends (answers r.accepted (refusals (allow_in x))) (length (asked_ranges ls))) refused first.stays.0, subst (Behind (program_lines ls)) refused first.stays.1, omega arith, first.stays.3, refl);
+      stays = (subst (λ x. Ends (answers r.accepted (refusals (allow_in x))) (length (asked_ranges ls))) refused first.stays.0, (subst (Behind (program_lines ls)) refused first.stays.1, refl), omega arith, first.stays.3, refl);
       travel = all.travel;
     }
 
@@ -38,7 +38,7 @@ returns-in-Err-Allow g c =
     record {
       kept = all.kept;
       left = all.left;
-      stays = (subst (λ x. Ends (answers r.accepted (refusals (allow_in x))) (length (asked_ranges ls))) refused first.stays.0, tt, omega arith, first.stays.3, refl);
+      stays = (subst (λ x. Ends (answers r.accepted (refusals (allow_in x))) (length (asked_ranges ls))) refused first.stays.0, refl, omega arith, first.stays.3, refl);
       travel = all.travel;
     }
 
