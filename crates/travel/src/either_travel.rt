@@ -16,6 +16,7 @@ impl<A: Travel, B: Travel> Travel for Either<A, B> {
         for_both!(self, travel => travel.side_count())
     }
 
+    #[inline(always)]
     fn side(&self, n: usize) -> Option<Side> {
         for_both!(self, travel => travel.side(n))
     }

@@ -18,6 +18,7 @@ impl Travel for Beam {
         self.base.side_count() + 1
     }
 
+    #[inline(always)]
     fn side(&self, n: usize) -> Option<Side> {
         if n == self.base.side_count() {
             let c = -self.gap;

@@ -75,6 +75,7 @@ impl Travel for Gantry {
         8
     }
 
+    #[inline(always)]
     fn side(&self, n: usize) -> Option<Side> {
         match n {
             0 => Some(self.at_most(Axis::X)),
