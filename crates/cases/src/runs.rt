@@ -1,6 +1,7 @@
 // What runs come to, as the last answers to a script: here dry runs, and the helper for all.
 use console::lines::Lines;
 use desk::script::answer_script;
+use desk::stretch::write_answers;
 use std::alloc::{AllocError, Global};
 use std::process::Abort;
 use std::test::*;
@@ -24,7 +25,7 @@ fn check_answers(
 ) -> Result<(), Fail> {
     let text = text_of(rt.alloc(), script)?;
     let mut answers = Vec::new(rt.alloc());
-    answer_script(&mut answers, text.as_slice())?;
+    write_answers(&mut answers, text.as_slice())?;
     assert!(rt; Lines::new(answers.as_slice()).count() == script.len());
     assert!(rt; last.len() <= script.len());
     let before = script.len() - last.len();
@@ -38,12 +39,45 @@ fn check_last(rt: &(impl Abort + AllocGlobal), script: &[&[u8]], last: &str) -> 
     check_answers(rt, script, &[last])
 }
 
+// The answers as values: one for each line, on the table that stands there.
+#[test]
+fn answers_as_values(rt: HostRuntime) -> Result<(), Fail> {
+    let move_past_the_gap: &[u8] = b"line G1 X2410001";
+    let dry: &[u8] = b"dry 0 0 0 0 0 0 9";
+    let script: [&[u8]; 7] = [
+        move_past_the_gap,
+        dry,
+        b"benchbeam",
+        b"step",
+        b"go",
+        move_past_the_gap,
+        dry,
+    ];
+    let texts = [
+        "ok",
+        "ended",
+        "ok",
+        "refused 43",
+        "bad command 5",
+        "ok",
+        "stopped 1 travel 8",
+    ];
+    let text = text_of(rt.alloc(), &script)?;
+    let answers = answer_script(rt.alloc(), text.as_slice())?;
+    assert!(rt; answers.len() == texts.len());
+    for (answer, text) in answers.iter().zip(texts) {
+        let shown = format!(in rt.alloc(); "{answer}")?;
+        assert!(rt; shown.as_str() == text);
+    }
+    Ok(())
+}
+
 // Where there is room for no more, the answers before are there.
 #[test]
 fn a_writer_that_is_full(rt: HostRuntime) -> Result<(), Fail> {
     let mut room = [b'.'; 10];
     let mut writer = room.as_mut_slice();
-    let answered = answer_script(&mut writer, b"wipe\nwipe\nstep\n");
+    let answered = write_answers(&mut writer, b"wipe\nwipe\nstep\n");
     assert!(rt; answered.is_err());
     assert!(rt; room == *b"ok\nok\nrefu");
     Ok(())

@@ -1,2 +1,3 @@
 pub mod Playing
 pub mod Stretching
+pub mod Writing

@@ -1,6 +1,6 @@
--- What is played and noted of a stretch, a line at a time.
-use Rattle.std.proofs.Common.{◌≡◌, ℕ, ◌+◌, List, [], ◌∷◌, ◌++◌, length, Some, None, Ok, Err, Option, Result, IfOk, IsErr, refl, sym, ap, ◌∙◌, subst, subst₂, arith}
-use Rattle.std.proofs.lemmas.List.{append_assoc, append-nil, length-append}
+-- What is played and noted of a stretch: a line at a time, and as a tape.
+use Rattle.std.proofs.Common.{◌≡◌, ℕ, ◌+◌, min, List, [], ◌∷◌, ◌++◌, length, Some, None, Ok, Err, Option, Result, IfOk, IsErr, refl, sym, ap, ◌∙◌, subst, subst₂, arith}
+use Rattle.std.proofs.lemmas.List.{append_assoc, append-nil, ext_get_or, length-append}
 use Rattle.std.specs.Io.KnownBytes.{Appends}
 use Rattle.model.specs.Envelopes.{Envelope}
 use Rattle.session.specs.Memory.{Memory}
@@ -8,16 +8,20 @@ use Rattle.session.specs.declared.progress.Progress.{Progress}
 use Rattle.session.specs.declared.progress.Progress.TheVariants.{WentOn, Commanded, Ended}
 use Rattle.command.specs.Commands.{command_of}
 use Rattle.console.specs.Lines.{lines_of}
-use Rattle.calls.specs.Events.{by_step}
-use Rattle.calls.specs.Law.{Answer as Told, Call, event, step}
+use Rattle.calls.specs.Events.{by_step, recorded}
+use Rattle.calls.specs.Law.{Answer as Told, Call, event, step, Lawful}
 use Rattle.calls.specs.Playing.{AllKept}
+use Rattle.calls.specs.Loans.{EachStays}
 use Rattle.calls.proofs.Played.{Played, played_both}
+use Rattle.desk.specs.declared.answer.Note.TheVariants.{Bad}
 use Rattle.desk.specs.declared.answer.Reply.{Reply}
+use Rattle.desk.specs.declared.answer.Reply.TheVariants.{Done}
+use Rattle.desk.specs.declared.entry.Answer.{Answer}
 use Rattle.desk.specs.declared.entry.Entry.{Entry}
 use Rattle.desk.specs.declared.entry.Entry.TheVariants.{Call as ACall, Table as ATable, Note as ANote}
 use Rattle.desk.specs.Answers.{answer, reply_of}
 use Rattle.desk.specs.Scripts.{Table, Enters, Stays, events_of, entry_text, table_in}
-use Rattle.desk.specs.Stretches.{EntersEach, NoTable, asked, events_in}
+use Rattle.desk.specs.Stretches.{EntersEach, NoTable, asked, paired, events_in, envelope_of, Finished}
 use Rattle.desk.specs.Written.{noted, answer_lines, LinesRead, StretchEnds}
 
 -- what a step tells is its answer
@@ -71,7 +75,7 @@ line_read n m k text rest more l es e r next this enters =
       last = let both = length-append r.lines (l ∷ []) in omega arith;
     }
 
-plain_more : (es : List Entry) (e : Entry) → NoTable es → table_in e ≡ None → NoTable (es ++ (e ∷ []))
+pub plain_more : (es : List Entry) (e : Entry) → NoTable es → table_in e ≡ None → NoTable (es ++ (e ∷ []))
 plain_more [] e h p = (p, tt)
 plain_more (c ∷ es) e h p = (h.0, plain_more es e h.1 p)
 
@@ -117,3 +121,37 @@ module _ (hs gs : List (Entry × Reply)) (e d : Entry) (r : Reply) (more : gs �
 
   pub turn_ends : (rest : List ℕ) (u : Table) → NoTable (asked (noted hs)) → Some u ≡ table_in d → StretchEnds rest (noted gs) (Some u)
   turn_ends rest u plain some = (noted hs, record { entry = d; reply = r }, ap noted more ∙ noted_more d r hs, plain, sym some)
+
+-- ---- a tape of entries that was played
+all_stay : (n : ℕ) (cs ds : List Entry) (qs rs : List Reply) → length ds ≡ length cs → n ≡ length cs → EachStays Stays n cs ds qs rs → ds ≡ cs
+all_stay n cs ds qs rs e m s = ext_get_or (ANote (Bad 0)) ds cs e (λ i h. stays_same _ _ _ (s.played i (ANote (Bad 0)) Done (omega (arith, e, m, h))))
+
+-- what a tape records
+recorded_entries : (cs ds : List Entry) (rs : List Reply) → length ds ≡ length cs → length rs ≡ length cs → recorded (λ (c d : Entry) (r : Reply). events_of c r) cs ds rs ≡ events_in (paired cs rs)
+recorded_entries [] ds rs e f = refl
+recorded_entries (c ∷ cs) [] rs e f = absurd (omega arith)
+recorded_entries (c ∷ cs) (d ∷ ds) [] e f = absurd (omega arith)
+recorded_entries (c ∷ cs) (d ∷ ds) (r ∷ rs) e f = ap (λ es. events_of c r ++ es) (recorded_entries cs ds rs (omega arith) (omega arith))
+
+asked_paired : (es : List Entry) (rs : List Reply) → length rs ≡ length es → asked (paired es rs) ≡ es
+asked_paired [] rs e = refl
+asked_paired (c ∷ es) [] e = absurd (omega arith)
+asked_paired (c ∷ es) (r ∷ rs) e = ap (λ cs. c ∷ cs) (asked_paired es rs (omega arith))
+
+-- where the answers are noted, if they are
+pub if_ok : {A E P Q : Type 0} (r : Result A E) → (P → Q) → IfOk r (λ _. P) → IfOk r (λ _. Q)
+if_ok (Ok a) f p = f p
+if_ok (Err e) f p = tt
+
+module _ (t : Table) (cs ds : List Entry) (qs rs : List Reply) (old new : List Answer) (all : length ds ≡ length cs) (room : length qs ≡ length cs) (told : length rs ≡ length qs) where
+  pub finished : EachStays Stays (min (length cs) (length qs)) cs ds qs rs
+      → Lawful (envelope_of t) [] (recorded (λ (c d : Entry) (r : Reply). events_of c r) cs ds rs)
+      → new ≡ old ++ paired ds rs → Finished t cs old new
+  finished stays law noted =
+      let same = all_stay (min (length cs) (length qs)) cs ds qs rs all (omega (arith, room)) stays in
+      record {
+        added = paired cs rs;
+        all = noted ∙ ap (λ es. old ++ paired es rs) same;
+        entries = asked_paired cs rs (told ∙ room);
+        law = subst (Lawful (envelope_of t) []) (recorded_entries cs ds rs all (told ∙ room)) law;
+      }

@@ -1,101 +1,78 @@
--- How far a script is answered while its stretches are played.
-use Rattle.std.proofs.Common.{◌≡◌, ℕ, ◌+◌, ◌<◌, List, [], ◌∷◌, ◌++◌, length, Some, None, Ok, Err, Option, Result, OnOk, refl, sym, ap, ◌∙◌, subst, arith}
-use Rattle.std.proofs.lemmas.List.{append_assoc, append-nil, length-append}
-use Rattle.std.specs.Io.KnownBytes.{Appends, Keeps}
+-- How far a script is answered while its lines are read.
+use Rattle.std.proofs.Common.{◌≡◌, ℕ, ◌+◌, List, [], ◌∷◌, ◌++◌, Some, None, Ok, refl, sym, ap, ◌∙◌, subst}
+use Rattle.std.proofs.lemmas.List.{append_assoc, append-nil}
 use Rattle.travel.specs.Benches.{bench_gantry}
+use Rattle.command.specs.Commands.{command_of}
 use Rattle.console.specs.Lines.{lines_of}
-use Rattle.calls.specs.Law.{Lawful}
 use Rattle.desk.specs.declared.entry.Answer.{Answer}
 use Rattle.desk.specs.declared.entry.Entry.{Entry}
-use Rattle.desk.specs.declared.entry.Entry.TheVariants.{Call as ACall, Table as ATable, Note as ANote}
-use Rattle.desk.specs.declared.answer.Reply.{Reply}
-use Rattle.desk.specs.Scripts.{Table, OnGantry, entry_text, events_of, table_in}
-use Rattle.desk.specs.Stretches.{EntersEach, asked, events_in, envelope_of, Stretches, last, next}
-use Rattle.desk.specs.Written.{answer_lines, LinesRead, StretchEnds, Replayed}
-use Rattle.desk.proofs.Playing.{enters_both, nothing_written, written_both}
+use Rattle.desk.specs.Scripts.{Table, OnGantry, Enters, table_in}
+use Rattle.desk.specs.Stretches.{EntersEach, asked, NoTable, Stretches, last, next, Finished, Answered}
+use Rattle.desk.proofs.Playing.{plain_more}
 
--- the lines up to line n are read, and a text is left; the answers are written, and the stretch that is next is on table t
-pub record Going (script : List ℕ) (n : ℕ) (left : List ℕ) (first t : Table) (before now : Option (List ℕ)) : Type 0 where
-  pub answers : List Answer
-  pub entries : (fs : List Entry) → EntersEach (n + 1) (lines_of left) fs → EntersEach 1 (lines_of script) (asked answers ++ fs)
-  pub stretches : (more : List Answer) → Stretches t more → Stretches first (answers ++ more)
-  pub written : Appends before now (answer_lines answers)
+-- n lines are read and ls are left; qs are answered, and es are the entries of the stretch on table t that is not over yet
+pub record Going (script : List ℕ) (n : ℕ) (ls : List (List ℕ)) (first t : Table) (es : List Entry) (qs : List Answer) : Type 0 where
+  pub entries : (fs : List Entry) → EntersEach (n + 1) ls fs → EntersEach 1 (lines_of script) (asked qs ++ (es ++ fs))
+  pub plain : NoTable es
+  pub stretches : (more : List Answer) → Stretches t more → Stretches first (qs ++ more)
 
-pub begun : (script : List ℕ) (t : Table) (before : Option (List ℕ)) → Going script 0 script t t before before
-begun script t before = record { answers = []; entries = λ fs h. h; stretches = λ more h. h; written = nothing_written before }
+pub begun : (script : List ℕ) (t : Table) → Going script 0 (lines_of script) t t [] []
+begun script t = record { entries = λ fs h. h; plain = tt; stretches = λ more h. h }
 
-lines_both : (ps qs : List Answer) → answer_lines (ps ++ qs) ≡ answer_lines ps ++ answer_lines qs
-lines_both [] qs = refl
-lines_both (a ∷ ps) qs = ap (λ bs. entry_text a.entry a.reply ++ (10 ∷ bs)) (lines_both ps qs) ∙ sym (append_assoc (entry_text a.entry a.reply) (10 ∷ answer_lines ps) (answer_lines qs))
+asked_one : (added : List Answer) (a : Answer) (fs : List Entry) → asked (added ++ (a ∷ [])) ++ fs ≡ asked added ++ (a.entry ∷ fs)
+asked_one [] a fs = refl
+asked_one (b ∷ added) a fs = ap (λ es. b.entry ∷ es) (asked_one added a fs)
 
--- an entry that sets up a table makes no call
-no_call : (e : Entry) (r : Reply) (u : Table) → table_in e ≡ Some u → events_of e r ≡ []
-no_call (ACall c) r u p = absurd (cc)
-no_call (ATable t) r u p = refl
-no_call (ANote n) r u p = absurd (cc)
+asked_more : (qs added : List Answer) (a : Answer) (fs : List Entry) → asked ((qs ++ added) ++ (a ∷ [])) ++ fs ≡ asked qs ++ (asked added ++ (a.entry ∷ fs))
+asked_more [] added a fs = asked_one added a fs
+asked_more (q ∷ qs) added a fs = ap (λ es. q.entry ∷ es) (asked_more qs added a fs)
 
-events_last : (ps : List Answer) (a : Answer) (u : Table) → table_in a.entry ≡ Some u → events_in (ps ++ (a ∷ [])) ≡ events_in ps
-events_last [] a u p = ap (λ es. es ++ []) (no_call a.entry a.reply u p)
-events_last (q ∷ ps) a u p = ap (λ es. events_of q.entry q.reply ++ es) (events_last ps a u p)
+asked_both : (qs added : List Answer) → asked (qs ++ added) ≡ asked qs ++ asked added
+asked_both [] added = refl
+asked_both (q ∷ qs) added = ap (λ es. q.entry ∷ es) (asked_both qs added)
 
-asked_both : (ps qs : List Answer) (fs : List Entry) → asked (ps ++ qs) ++ fs ≡ asked ps ++ (asked qs ++ fs)
-asked_both [] qs fs = refl
-asked_both (q ∷ ps) qs fs = ap (λ es. q.entry ∷ es) (asked_both ps qs fs)
-
--- a stretch that ends with a table leaves fewer lines
-one_entered : (k : ℕ) (ls : List (List ℕ)) (ps : List Answer) (a : Answer) → EntersEach k ls (asked (ps ++ (a ∷ []))) → 0 < length ls
-one_entered k [] [] a h = absurd h
-one_entered k [] (p ∷ ps) a h = absurd h
-one_entered k (l ∷ ls) ps a h = omega arith
-
-pub fewer : (n m : ℕ) (left rest : List ℕ) (qs : List Answer) (u : Table) → LinesRead n m left rest (asked qs) → StretchEnds rest qs (Some u) → length (lines_of rest) < length (lines_of left)
-fewer n m left rest qs u read (ps, a, parts, plain, table) =
-    let some = one_entered (n + 1) read.lines ps a (subst (λ bs. EntersEach (n + 1) read.lines (asked bs)) parts read.entries) in
-    let all : length (lines_of left) ≡ length (read.lines ++ lines_of rest) = ap length read.all in
-    let both = length-append read.lines (lines_of rest) in
-    omega arith
-
--- a flush writes nothing more
-kept_written : (a b c : Option (List ℕ)) (xs : List ℕ) → Appends a b xs → Keeps b c → Appends a c xs
-kept_written None b c xs p q = tt
-kept_written (Some held) None c xs p q = absurd p
-kept_written (Some held) (Some bs) None xs p q = q
-kept_written (Some held) (Some bs) (Some cs) xs p q = q ∙ p
-
-module _ (script : List ℕ) (n m : ℕ) (left rest : List ℕ) (first t : Table) (before then now : Option (List ℕ)) (qs : List Answer)
-    (g : Going script n left first t before then) (read : LinesRead n m left rest (asked qs)) (law : Lawful (envelope_of t) [] (events_in qs)) (written : Appends then now (answer_lines qs)) where
-  abbrev all : List Answer
-  all = g.answers ++ qs
-
-  all_entries : (fs : List Entry) → EntersEach (m + 1) (lines_of rest) fs → EntersEach 1 (lines_of script) (asked all ++ fs)
-  all_entries fs h =
-      let number = read.last in
-      let both = enters_both (n + 1) (m + 1) read.lines (lines_of rest) (asked qs) fs (omega arith) read.entries h in
-      subst (EntersEach 1 (lines_of script)) (sym (asked_both g.answers qs fs)) (g.entries (asked qs ++ fs) (subst (λ ls. EntersEach (n + 1) ls (asked qs ++ fs)) (sym read.all) both))
-
-  all_written : Appends before now (answer_lines all)
-  all_written = subst (Appends before now) (sym (lines_both g.answers qs)) (written_both before then now (answer_lines g.answers) (answer_lines qs) g.written written)
-
-  -- the next stretch is on the table that was set up
-  pub next_stretch : (u : Table) → StretchEnds rest qs (Some u) → Going script m rest first u before now
-  next_stretch u (ps, a, parts, plain, table) = record {
-    answers = all;
-    entries = all_entries;
-    stretches = λ more h. subst (Stretches first) (ap (λ bs. g.answers ++ bs) (sym (append_assoc ps (a ∷ []) more) ∙ ap (λ bs. bs ++ more) (sym parts)) ∙ sym (append_assoc g.answers qs more))
-        (g.stretches (ps ++ (a ∷ more)) (next t u ps a more (plain, subst (Lawful (envelope_of t) []) (ap events_in parts ∙ events_last ps a u table) law) table h));
-    written = all_written;
+module _ (script : List ℕ) (first t : Table) (es : List Entry) (qs : List Answer) where
+  -- an entry that sets up no table belongs to the stretch
+  one_more : (n : ℕ) (l : List ℕ) (ls : List (List ℕ)) (e : Entry) → Going script n (l ∷ ls) first t es qs → Enters (n + 1) (command_of l) e → table_in e ≡ None → Going script (n + 1) ls first t (es ++ (e ∷ [])) qs
+  one_more n l ls e g enters p = record {
+    entries = λ fs h. subst (λ cs. EntersEach 1 (lines_of script) (asked qs ++ cs)) (sym (append_assoc es (e ∷ []) fs)) (g.entries (e ∷ fs) (enters, h));
+    plain = plain_more es e g.plain p;
+    stretches = g.stretches;
   }
 
-  -- the last one ends the script, and the writer is flushed
-  pub last_stretch : {E : Type 0} (r : Result (Unit {0}) E) (after : Option (List ℕ)) → OnGantry bench_gantry (Ok first) → StretchEnds rest qs None → Keeps now after → OnOk r (Replayed script before after)
-  last_stretch (Err e) after made ends flushed = tt
-  last_stretch (Ok u) after made ends flushed = record {
-    answers = all;
-    answered = record {
-      entries = subst (EntersEach 1 (lines_of script)) (append-nil (asked all)) (all_entries [] (subst (λ ls. EntersEach (m + 1) ls []) (sym ends.0) tt));
-      first = first;
-      made = made;
-      stretches = g.stretches qs (last t qs (ends.1, law));
-    };
-    written = kept_written before now after (answer_lines all) all_written flushed;
-  }
+  -- one that does ends the stretch
+  next_table : (n : ℕ) (l : List ℕ) (ls : List (List ℕ)) (ps : List Answer) (a : Answer) (u : Table) → Going script n (l ∷ ls) first t es qs → Finished t es qs ps → Enters (n + 1) (command_of l) a.entry → table_in a.entry ≡ Some u → Going script (n + 1) ls first u [] (ps ++ (a ∷ []))
+  next_table n l ls ps a u g f enters p =
+      let all : ps ++ (a ∷ []) ≡ (qs ++ f.added) ++ (a ∷ []) = ap (λ bs. bs ++ (a ∷ [])) f.all in
+      record {
+        entries = λ fs h. subst (EntersEach 1 (lines_of script)) (ap (λ cs. asked qs ++ (cs ++ (a.entry ∷ fs))) (sym f.entries) ∙ sym (asked_more qs f.added a fs) ∙ ap (λ bs. asked bs ++ fs) (sym all)) (g.entries (a.entry ∷ fs) (enters, h));
+        plain = tt;
+        stretches = λ more h. subst (Stretches first) (sym (append_assoc qs f.added (a ∷ more)) ∙ sym (append_assoc (qs ++ f.added) (a ∷ []) more) ∙ ap (λ bs. bs ++ more) (sym all))
+            (g.stretches (f.added ++ (a ∷ more)) (next t u f.added a more (subst NoTable (sym f.entries) g.plain, f.law) p h));
+      }
+
+  -- the line that is read is k, and m lines are read then
+  module _ (n k m : ℕ) (rest : List (List ℕ)) (l : List ℕ) (ls : List (List ℕ)) (g : Going script n rest first t es qs) (line : rest ≡ l ∷ ls) (this : k ≡ n) (then : m ≡ n + 1) where
+    here : Going script n (l ∷ ls) first t es qs
+    here = subst (λ ks. Going script n ks first t es qs) line g
+
+    numbered : (e : Entry) → Enters (k + 1) (command_of l) e → Enters (n + 1) (command_of l) e
+    numbered e = subst (λ i. Enters (i + 1) (command_of l) e) this
+
+    pub read_call : (e : Entry) (ds : List Entry) → Enters (k + 1) (command_of l) e → None ≡ table_in e → ds ≡ es ++ (e ∷ []) → Going script m ls first t ds qs
+    read_call e ds enters p pushed = subst (λ cs. Going script m ls first t cs qs) (sym pushed) (subst (λ i. Going script i ls first t (es ++ (e ∷ [])) qs) (sym then) (one_more n l ls e here (numbered e enters) (sym p)))
+
+    pub read_table : (a : Answer) (u : Table) (ds : List Entry) (ps bs : List Answer) → Enters (k + 1) (command_of l) a.entry → Some u ≡ table_in a.entry → Finished t es qs ps → ds ≡ [] → bs ≡ ps ++ (a ∷ []) → Going script m ls first u ds bs
+    read_table a u ds ps bs enters p f none pushed =
+        let one = next_table n l ls ps a u here f (numbered a.entry enters) (sym p) in
+        subst (λ cs. Going script m ls first u cs bs) (sym none) (subst (λ cs. Going script m ls first u [] cs) (sym pushed) (subst (λ i. Going script i ls first u [] (ps ++ (a ∷ []))) (sym then) one))
+
+  pub all_read : (n : ℕ) (rest : List (List ℕ)) (ps : List Answer) → Going script n rest first t es qs → rest ≡ [] → Finished t es qs ps → OnGantry bench_gantry (Ok first) → Answered script ps
+  all_read n rest ps h none f made =
+      let g = subst (λ ks. Going script n ks first t es qs) none h in
+      record {
+        entries = subst (EntersEach 1 (lines_of script)) (ap (λ cs. asked qs ++ cs) (append-nil es ∙ sym f.entries) ∙ sym (asked_both qs f.added) ∙ ap asked (sym f.all)) (g.entries [] tt);
+        first = first;
+        made = made;
+        stretches = subst (Stretches first) (sym f.all) (g.stretches f.added (last t f.added (subst NoTable (sym f.entries) g.plain, f.law)));
+      }

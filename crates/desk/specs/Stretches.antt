@@ -10,6 +10,7 @@ use Rattle.console.specs.Lines.{lines_of}
 use Rattle.calls.specs.Law.{Event, Lawful}
 use Rattle.desk.specs.declared.entry.Answer.{Answer}
 use Rattle.desk.specs.declared.entry.Entry.{Entry}
+use Rattle.desk.specs.declared.answer.Reply.{Reply}
 use Rattle.desk.specs.Scripts.{Table, OnGantry, Enters, events_of, table_in}
 
 -- ---- entries
@@ -34,12 +35,25 @@ abbrev pub events_in : List Answer → List Event
 events_in [] = []
 events_in (a ∷ qs) = events_of a.entry a.reply ++ events_in qs
 
+-- entries, each with what it is answered
+abbrev pub paired : List Entry → List Reply → List Answer
+paired [] rs = []
+paired (e ∷ es) [] = []
+paired (e ∷ es) (r ∷ rs) = record { entry = e; reply = r } ∷ paired es rs
+
 abbrev pub envelope_of : Table → Envelope
 envelope_of = either gantry_envelope beam_envelope
 
 -- the answers to entries on one table: their calls are made on a session just made, and the law holds of them
 abbrev pub Stretch : Table → List Answer → Type 0
 Stretch t qs = NoTable (asked qs) × Lawful (envelope_of t) [] (events_in qs)
+
+-- the entries of a stretch are answered on the table, and their answers stand behind those that were there
+pub record Finished (t : Table) (es : List Entry) (old new : List Answer) : Type 0 where
+  pub added : List Answer
+  pub all : new ≡ old ++ added
+  pub entries : asked added ≡ es
+  pub law : Lawful (envelope_of t) [] (events_in added)
 
 -- ---- a script
 -- a stretch on the table that stands lasts up to the next entry that sets up a table; what follows is answered on that one

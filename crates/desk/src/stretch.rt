@@ -1,12 +1,14 @@
-// A stretch of a script, as a list of calls on the session that stands: its lines up to the next that sets up a table.
-ghost use Rattle.std.specs.Prelude.{◌+◌, ◌^◌, ◌<◌, length};
+// A stretch of a script, as a list of calls on the session that stands: its lines up to the next that sets up a table. A whole script
+// is answered stretch by stretch.
+ghost use Rattle.std.specs.Prelude.{◌+◌, ◌^◌, ◌<◌, length, OnOk};
 ghost use Rattle.desk.specs.Stretches.{events_in};
-ghost use Rattle.desk.specs.Written.{noted, AnswersLines};
+ghost use Rattle.desk.specs.Written.{noted, AnswersLines, Replayed};
 
 use crate::answer::Reply;
-use crate::desk::{Table, read_entry};
+use crate::desk::{Table, first_table, read_entry};
 use crate::entry::{Answer, Entry};
 use calls::calls::Calls;
+use calls::play::play_calls;
 use console::lines::first_line;
 use http_server::Log;
 use session::session::Session;
@@ -50,4 +52,22 @@ impl<'t, 'w, W: Write> Calls for Stretch<'t, 'w, W> {
         }
         Ok(None)
     }
+}
+
+/// Answers the lines of a script in order: each answer is written, in a line of its own, before the next line is read.
+pub fn write_answers<W: Write>(writer: &mut W, script: &[u8]) -> io::Result<()>
+    ensures { OnOk result (Replayed script.now (W.contents writer.old) (W.contents writer.new)) }
+{
+    let mut stretch = Stretch {
+        text: script,
+        read: 0,
+        writer,
+        played: Log::new(),
+    };
+    let mut table = first_table();
+    while let Some(next) = play_calls(table, &mut stretch)? {
+        table = next;
+    }
+    let Stretch { writer, .. } = stretch;
+    writer.flush()
 }

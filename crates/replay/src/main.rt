@@ -2,13 +2,13 @@
 
 #![tactic(auto)]
 
-use desk::script::answer_script;
+use desk::stretch::write_answers;
 use std::io::{LineWriter, Read};
 
 fn main(rt: HostRuntime) -> anyhow::Result<()> {
     let mut answers = LineWriter::new(rt.alloc(), rt.stdout())?;
     let mut script = Vec::new(rt.alloc());
     rt.stdin().read_to_end(&mut script)?;
-    answer_script(&mut answers, script.as_slice())?;
+    write_answers(&mut answers, script.as_slice())?;
     Ok(())
 }

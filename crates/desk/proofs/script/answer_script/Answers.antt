@@ -1,35 +1,17 @@
--- One stretch after another is answered.
-use Rattle.std.proofs.Common.{◌≡◌, refl, ◌∙◌, subst, rules}
-use Rattle.desk.specs.Written.{noted, StretchEnds}
-use Rattle.desk.proofs.Stretching.{begun, fewer, next_stretch, last_stretch}
+-- Each line is read, and each table ends a stretch.
+use Rattle.desk.proofs.Stretching.{read_call, read_table, all_read}
 use Rattle.desk.proofs.script.answer_script.Goals as goal
 
-pub loop-next-init : goal.loop-next-init
-loop-next-init g c = record { going = begun c.args.script.now c.first_table-table.result (g.W.Write.contents c.args.writer.now); lent = refl }
+pub loop-before-preserved-in-Continue-1 : goal.loop-before-preserved-in-Continue-1
+loop-before-preserved-in-Continue-1 c =
+    let steps = c.in-Some.ensures.steps in
+    read_call _ _ _ _ _ _ _ _ _ _ _ c.loop-before.invariant steps.0 steps.1 steps.2 _ _ c.read_entry-entry.ensures c.in-None-table.ensures c.in_ok-push-in-None-table.ensures.items
 
-pub loop-next-smaller : goal.loop-next-smaller
-loop-next-smaller g c =
-    let new = c.play_calls.new.calls in
-    let stays = c.in_ok-next.ensures.stays in
-    fewer _ _ c.loop-next.stretch.text.now new.text.now (noted new.played.items) c.in-Some.next stays.read (subst (StretchEnds new.text.now (noted new.played.items)) c.in-Some.is stays.ends)
-
-pub loop-next-preserved : goal.loop-next-preserved
-loop-next-preserved g c =
-    let new = c.play_calls.new.calls in
-    let stays = c.in_ok-next.ensures.stays in
-    let now = c.loop-next.invariant in
-    record {
-      going = next_stretch _ _ _ _ new.text.now _ _ _ _ _ (noted new.played.items) now.going stays.read c.in_ok-next.ensures.law stays.written c.in-Some.next
-          (subst (StretchEnds new.text.now (noted new.played.items)) c.in-Some.is stays.ends);
-      lent = stays.lent ∙ now.lent;
-    }
+pub loop-before-preserved : goal.loop-before-preserved
+loop-before-preserved c =
+    let steps = c.in-Some.ensures.steps in
+    let done = c.in_ok-answer_stretch-in-Some-table.ensures in
+    read_table _ _ _ _ _ _ _ _ _ _ _ c.loop-before.invariant steps.0 steps.1 steps.2 _ _ _ _ _ c.read_entry-entry.ensures c.in-Some-table.ensures done.answered done.left c.in_ok-push-in-Some-table.ensures.items
 
 pub returns : goal.returns
-returns g c =
-    let new = c.play_calls.new.calls in
-    let stays = c.in_ok-next.ensures.stays in
-    let now = c.loop-next.invariant in
-    let lent : new.writer.ghost_name ≡ c.loop-next.stretch.writer.ghost_name = stays.lent in
-    let done = last_stretch c.args.script.now _ _ _ new.text.now c.first_table-table.result _ _ _ (g.W.Write.contents new.writer.now) (noted new.played.items) now.going stays.read c.in_ok-next.ensures.law stays.written c.flush.result
-    (g.W.Write.contents c.flush.new.self) c.first_table-table.ensures (subst (StretchEnds new.text.now (noted new.played.items)) c.in_default.is stays.ends) c.flush.ensures.bytes in
-    search rules
+returns c = all_read _ _ _ _ _ _ _ _ c.loop-before.invariant c.in-None.ensures.steps.0 c.in_ok-answer_stretch.ensures.answered c.first_table-table.ensures
